@@ -1,0 +1,5 @@
+pub mod Majorities
+pub mod Records
+pub mod Refusals
+pub mod Rows
+pub mod Views

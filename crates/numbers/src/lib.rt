@@ -1,0 +1,31 @@
+// Numbers and views: the lowest layer. Each kind of number has a type of its own.
+mod majorities;
+mod records;
+mod refusals;
+mod rows;
+mod views;
+
+pub use majorities::majority;
+pub use records::CellRecord;
+pub use refusals::Refusal;
+pub use refusals::RefusalDebug;
+pub use refusals::RefusalPartialEq;
+pub use rows::Row;
+pub use rows::RowDebug;
+pub use rows::RowPartialEq;
+pub use views::ControllerNumber;
+pub use views::ControllerNumberDebug;
+pub use views::ControllerNumberPartialEq;
+pub use views::Place;
+pub use views::PlaceDebug;
+pub use views::PlacePartialEq;
+pub use views::Stamp;
+pub use views::StampDebug;
+pub use views::StampPartialEq;
+pub use views::View;
+pub use views::ViewCount;
+pub use views::ViewCountDebug;
+pub use views::ViewCountPartialEq;
+pub use views::ViewDebug;
+pub use views::ViewPartialEq;
+pub use views::calls::views_are_ordered;
