@@ -1,10 +1,10 @@
 -- A cell past the last, and a table whose rows stay in form. Assumes nothing.
 use Prim.Native.Nat.{ℕ, zero, suc, _≤_}
-use mathlib.Core.Path.{_≡_, ap}
+use mathlib.Core.Path.{_≡_}
 use mathlib.Core.Bool.{true}
 use mathlib.Core.List.{List, [], _∷_}
 use native.Mathlib.Omega.{arith}
-use lib.ListN.{drop, getD, length, set}
+use lib.ListN.{getD, length, set}
 use Rattle.std.proofs.shelf.Lists.{getD-past, drop-all, drop-more}
 use Rattle.numbers.specs.Rows.{row-ok}
 use Rattle.cabinet.specs.declared.cells.Cell.{Cell}

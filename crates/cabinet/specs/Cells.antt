@@ -4,10 +4,15 @@ use mathlib.Core.Path.{_≡_}
 use mathlib.Core.Bool.{Bool, true, cond}
 use mathlib.Core.List.{List}
 use lib.Dec.{eqb}
-use lib.ListN.{getD, set}
+use lib.ListN.{getD, length, set}
 use Rattle.numbers.specs.declared.rows.Row.{Row}
 use Rattle.numbers.specs.Rows.{row-ok, zero-row}
 use Rattle.cabinet.specs.declared.cells.Cell.{Cell}
+
+-- the cells of a cabinet: seven, numbered from 0
+pub record Seven : Type 0 where
+  pub list : List Cell
+  pub seven : length list ≡ 7
 
 -- a cell as it is made, with n writes left
 abbrev pub fresh : ℕ → Cell

@@ -1,3 +1,4 @@
 pub mod Cells
 pub mod Slots
+pub mod Strips
 pub mod Trays

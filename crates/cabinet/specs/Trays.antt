@@ -2,6 +2,10 @@
 use mathlib.Core.List.{List}
 use Rattle.cabinet.specs.declared.cells.Cell.{Cell}
 use Rattle.cabinet.specs.declared.tray.Tray.{Tray}
+use Rattle.cabinet.specs.Cells.{Seven}
 
 abbrev pub tray-cells : Tray → List Cell
 tray-cells t = t .rows
+
+abbrev pub tray-seven : Tray → Seven
+tray-seven t = record { list = tray-cells t; seven = t .seven }

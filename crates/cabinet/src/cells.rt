@@ -11,5 +11,5 @@ pub struct Cell {
 // The cell has no writes left.
 #[derive(Clone, Copy)]
 pub struct Worn {
-    pub cell: usize,
+    pub cell: u16,
 }

@@ -6,8 +6,11 @@ mod kinds;
 mod lookups;
 
 pub use book::Body;
+pub use book::BodyClone;
 pub use book::Entry;
+pub use book::EntryClone;
 pub use book::Message;
+pub use book::MessageClone;
 pub use book::Reply;
 pub use cards::CardChange;
 pub use cards::CardChangeDebug;

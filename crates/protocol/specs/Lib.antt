@@ -1,0 +1,6 @@
+pub mod Updates
+pub mod Members
+pub mod Majorities
+pub mod Views
+pub mod Model
+pub mod Guarantee
