@@ -36,7 +36,7 @@ fn use_cell<C: Cabinet>(
     rt: &LibcRuntime,
     name: &str,
     cabinet: &mut C,
-    cell: usize,
+    cell: u16,
     row: Option<Row>,
 ) -> Result<(), AnyError> {
     if let Some(row) = row {

@@ -10,7 +10,7 @@ pub enum Order {
     AskCard(Question),
     AskDoor(Question),
     // a cell, and the row to put into it
-    Cell(usize, Option<Row>),
+    Cell(u16, Option<Row>),
     Remark,
     Unknown,
 }
@@ -51,13 +51,13 @@ pub fn read(line: &str) -> Result<Order, AnyError> {
             "card" => Order::AskCard(Question { first, second }),
             "door" => Order::AskDoor(Question { first, second }),
             "put" => Order::Cell(
-                first as usize,
+                first,
                 Some(Row {
                     current: view(second, third),
                     promised: view(fourth, fifth),
                 }),
             ),
-            "cell" => Order::Cell(first as usize, None),
+            "cell" => Order::Cell(first, None),
             _ => Order::Unknown,
         },
     )

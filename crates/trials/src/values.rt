@@ -18,7 +18,7 @@ pub fn row(current: (u16, u16), promised: (u16, u16)) -> Row {
 }
 
 // Puts the record so many times into the cell, and says how often it was taken.
-pub fn puts<C: Cabinet>(cabinet: &mut C, cell: usize, new: CellRecord, times: u32) -> u32 {
+pub fn puts<C: Cabinet>(cabinet: &mut C, cell: u16, new: CellRecord, times: u32) -> u32 {
     let mut taken = 0u32;
     for _ in 0..times {
         if cabinet.put(cell, new).is_ok() {

@@ -1,0 +1,5 @@
+pub mod ByRules
+pub mod Choosing
+pub mod Counted
+pub mod Joining
+pub mod Places
