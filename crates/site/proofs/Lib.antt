@@ -1,0 +1,4 @@
+pub mod Kept
+pub mod Lent
+pub mod Made
+pub mod Stepping

@@ -1,0 +1,4 @@
+pub mod Faults
+pub mod Making
+pub mod States
+pub mod Steps
