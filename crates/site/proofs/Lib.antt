@@ -2,3 +2,4 @@ pub mod Kept
 pub mod Lent
 pub mod Made
 pub mod Stepping
+pub mod Zero

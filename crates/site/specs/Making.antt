@@ -33,8 +33,11 @@ cells-zero cs (suc n) = cells-zero cs n && same-row (cell-at cs n .row) zero-row
 abbrev pub made-row : ℕ → ℕ → Controller
 made-row n c = cond (ltb c n) (first-record (controller-of c)) down-record
 
+abbrev pub made-rows : ℕ → List Controller
+made-rows n = map (made-row n) (counting 0 7)
+
 abbrev pub made-site : ℕ → ℕ → ℕ → Site
-made-site n cap pool = record { made = true; n = n; cap = cap; pool = pool; count = 0; rows = map (made-row n) (counting 0 7) }
+made-site n cap pool = record { made = true; n = n; cap = cap; pool = pool; count = 0; rows = made-rows n }
 
 -- a site that was never made
 abbrev pub no-site : Site

@@ -124,3 +124,9 @@ Pair-fails x books pool i b e =
     Member-fails x books pool i e
     ⊎ ((made-with x books pool ≡ true) × ((is-member (x .n) i ≡ true)
     × (((is-member (x .n) b ≡ false) × (e ≡ fault-by i 2)) ⊎ ((is-member (x .n) b ≡ true) × ((not (eqb (i .number) (b .number)) ≡ false) × (e ≡ fault-by i 2))))))
+
+-- why there is no message j: question 1, then question 3
+abbrev pub Message-fails : Site → ℕ → ℕ → ℕ → Fault → Type 0
+Message-fails x books pool j e =
+    ((made-with x books pool ≡ false) × (e ≡ fault-about j 1))
+    ⊎ ((made-with x books pool ≡ true) × ((ltb j (x .count) ≡ false) × (e ≡ fault-about j 3)))
