@@ -62,9 +62,9 @@ fn take_invitation<E: Copy, C: Cabinet>(
     message: Message<E>,
     room: bool,
 ) -> Result<Option<Message<E>>, Fault>
-    ensures result { result ≡ (took_invitation me.number row.old message (cells cab.old).list room).result }
-    ensures row { row.new ≡ (took_invitation me.number row.old message (cells cab.old).list room).row }
-    ensures cells { (cells cab.new).list ≡ (took_invitation me.number row.old message (cells cab.old).list room).cells }
+    ensures result { result ≡ (took_invitation me.number row.old message (C.cells cab.old).list room).result }
+    ensures row { row.new ≡ (took_invitation me.number row.old message (C.cells cab.old).list room).row }
+    ensures cells { (C.cells cab.new).list ≡ (took_invitation me.number row.old message (C.cells cab.old).list room).cells }
 {
     ask(
         me,
@@ -121,9 +121,9 @@ fn take_form<E: Copy, C: Cabinet>(
     cab: &mut C,
     message: Message<E>,
 ) -> Result<Option<Message<E>>, Fault>
-    ensures result { result ≡ (took_form me.number row.old message (cells cab.old).list).result }
-    ensures row { row.new ≡ (took_form me.number row.old message (cells cab.old).list).row }
-    ensures cells { (cells cab.new).list ≡ (took_form me.number row.old message (cells cab.old).list).cells }
+    ensures result { result ≡ (took_form me.number row.old message (C.cells cab.old).list).result }
+    ensures row { row.new ≡ (took_form me.number row.old message (C.cells cab.old).list).row }
+    ensures cells { (C.cells cab.new).list ≡ (took_form me.number row.old message (C.cells cab.old).list).cells }
 {
     ask(
         me,
@@ -223,10 +223,10 @@ fn take<E: Copy, C: Cabinet>(
     room: bool,
 ) -> Result<Option<Message<E>>, Fault>
     requires { message_ok me.n (cap_of book.old) message ≡ true }
-    ensures result { result ≡ (taken me.number row.old book.old (cells cab.old).list message room).result }
-    ensures row { row.new ≡ (taken me.number row.old book.old (cells cab.old).list message room).row }
-    ensures book { book.new ≡ (taken me.number row.old book.old (cells cab.old).list message room).book }
-    ensures cells { (cells cab.new).list ≡ (taken me.number row.old book.old (cells cab.old).list message room).cells }
+    ensures result { result ≡ (taken me.number row.old book.old (C.cells cab.old).list message room).result }
+    ensures row { row.new ≡ (taken me.number row.old book.old (C.cells cab.old).list message room).row }
+    ensures book { book.new ≡ (taken me.number row.old book.old (C.cells cab.old).list message room).book }
+    ensures cells { (C.cells cab.new).list ≡ (taken me.number row.old book.old (C.cells cab.old).list message room).cells }
 {
     match (row.status, message.body) {
         (Status::Down, _) => Err(Fault::Refused {
@@ -267,10 +267,10 @@ pub fn deliver<E: Copy, C: Cabinet>(
     message: Message<E>,
     room: bool,
 ) -> Result<Option<Message<E>>, Fault>
-    ensures result { result ≡ (delivered me.n me.number row.old book.old (cells cab.old).list message room).result }
-    ensures row { row.new ≡ (delivered me.n me.number row.old book.old (cells cab.old).list message room).row }
-    ensures book { book.new ≡ (delivered me.n me.number row.old book.old (cells cab.old).list message room).book }
-    ensures cells { (cells cab.new).list ≡ (delivered me.n me.number row.old book.old (cells cab.old).list message room).cells }
+    ensures result { result ≡ (delivered me.n me.number row.old book.old (C.cells cab.old).list message room).result }
+    ensures row { row.new ≡ (delivered me.n me.number row.old book.old (C.cells cab.old).list message room).row }
+    ensures book { book.new ≡ (delivered me.n me.number row.old book.old (C.cells cab.old).list message room).book }
+    ensures cells { (C.cells cab.new).list ≡ (delivered me.n me.number row.old book.old (C.cells cab.old).list message room).cells }
 {
     ask(
         me,

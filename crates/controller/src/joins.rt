@@ -25,9 +25,9 @@ pub fn follow<E: Copy, C: Cabinet>(
     log: &[Entry<E>],
     room: bool,
 ) -> Result<Message<E>, Fault>
-    ensures result { result ≡ (followed me.number row.old book.now (cells cab.old).list primary view log.now room).result }
-    ensures row { row.new ≡ (followed me.number row.old book.now (cells cab.old).list primary view log.now room).row }
-    ensures cells { (cells cab.new).list ≡ (followed me.number row.old book.now (cells cab.old).list primary view log.now room).cells }
+    ensures result { result ≡ (followed me.number row.old book.now (C.cells cab.old).list primary view log.now room).result }
+    ensures row { row.new ≡ (followed me.number row.old book.now (C.cells cab.old).list primary view log.now room).row }
+    ensures cells { (C.cells cab.new).list ≡ (followed me.number row.old book.now (C.cells cab.old).list primary view log.now room).cells }
 {
     ask(me, view.is_same(row.views.promised), Refusal::WrongView)?;
     ask(me, row.views.current.is_earlier(view), Refusal::WrongView)?;
@@ -81,9 +81,9 @@ pub fn join<E: Copy, C: Cabinet>(
     led_book: &[Entry<E>],
     room: bool,
 ) -> Result<Message<E>, Fault>
-    ensures result { result ≡ (joined me.number row.old book.now (cells cab.old).list leader.number led.now led_book.now room).result }
-    ensures row { row.new ≡ (joined me.number row.old book.now (cells cab.old).list leader.number led.now led_book.now room).row }
-    ensures cells { (cells cab.new).list ≡ (joined me.number row.old book.now (cells cab.old).list leader.number led.now led_book.now room).cells }
+    ensures result { result ≡ (joined me.number row.old book.now (C.cells cab.old).list leader.number led.now led_book.now room).result }
+    ensures row { row.new ≡ (joined me.number row.old book.now (C.cells cab.old).list leader.number led.now led_book.now room).row }
+    ensures cells { (C.cells cab.new).list ≡ (joined me.number row.old book.now (C.cells cab.old).list leader.number led.now led_book.now room).cells }
 {
     may_join(me, row, led)?;
     follow(

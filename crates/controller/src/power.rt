@@ -21,8 +21,8 @@ pub fn crash(me: Member, row: &mut Controller) -> Result<(), Fault>
 
 // The controller comes back: it waits with the views of its cell, and its book is not complete.
 pub fn recover<C: Cabinet>(me: Member, row: &mut Controller, cab: &C) -> Result<(), Fault>
-    ensures result { result ≡ (recovered (cells cab.now).list me.number row.old).result }
-    ensures row { row.new ≡ (recovered (cells cab.now).list me.number row.old).row }
+    ensures result { result ≡ (recovered (C.cells cab.now).list me.number row.old).result }
+    ensures row { row.new ≡ (recovered (C.cells cab.now).list me.number row.old).row }
 {
     ask(me, !row.is_up(), Refusal::WrongPower)?;
     let mut back = Controller::down();

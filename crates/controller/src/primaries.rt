@@ -71,7 +71,7 @@ pub fn lookup<E: Kind>(
     book: &[Entry<E>],
     question: Question,
 ) -> Result<Answer, Fault>
-    ensures { result ≡ looked_up says unsettled me.number row.now book.now question }
+    ensures { result ≡ looked_up E.says E.unsettled me.number row.now book.now question }
 {
     ask(me, row.is_up(), Refusal::WrongPower)?;
     ask(me, row.is_active(), Refusal::WrongStatus)?;

@@ -16,8 +16,8 @@ use numbers::{CellRecord, ControllerNumber, Refusal, Row, View, ViewCount};
 // Puts two views into the controller's own cell. A worn cell is refused before views that do not
 // keep the form of a record.
 pub fn put_views<C: Cabinet>(me: Member, cab: &mut C, views: Row) -> Result<(), Fault>
-    ensures result { MatchResult result (λ _. (is_worn (cells cab.old).list me.number.number ≡ false) × (row_ok views ≡ true)) (λ e. put_fails (cells cab.old).list me.number views e) }
-    ensures cells { (cells cab.new).list ≡ put_after (cells cab.old).list me.number views }
+    ensures result { MatchResult result (λ _. (is_worn (C.cells cab.old).list me.number.number ≡ false) × (row_ok views ≡ true)) (λ e. put_fails (C.cells cab.old).list me.number views e) }
+    ensures cells { (C.cells cab.new).list ≡ put_after (C.cells cab.old).list me.number views }
 {
     let cell = me.number().number;
     match CellRecord::new(views) {
@@ -58,9 +58,9 @@ pub fn reply(me: Member, row: &Controller) -> Reply
 
 // Calls the next view of this controller: promises it, and manages it with its own answer counted.
 pub fn call<C: Cabinet>(me: Member, row: &mut Controller, cab: &mut C) -> Result<(), Fault>
-    ensures result { result ≡ (called (cells cab.old).list me.number row.old).result }
-    ensures row { row.new ≡ (called (cells cab.old).list me.number row.old).row }
-    ensures cells { (cells cab.new).list ≡ (called (cells cab.old).list me.number row.old).cells }
+    ensures result { result ≡ (called (C.cells cab.old).list me.number row.old).result }
+    ensures row { row.new ≡ (called (C.cells cab.old).list me.number row.old).row }
+    ensures cells { (C.cells cab.new).list ≡ (called (C.cells cab.old).list me.number row.old).cells }
 {
     ask(me, row.is_up(), Refusal::WrongPower)?;
     let count = row.views.promised.count.number;

@@ -8,8 +8,8 @@ use crate::kinds::{Answer, Kind, Question};
 // Goes back from the last entry and ends at the first that settles the question; where none
 // does, the kind's own answer.
 pub fn lookup<E: Kind>(book: &[Entry<E>], question: Question) -> Answer
-    ensures value { result ≡ looked says unsettled book.now question }
-    ensures rule { Rule says unsettled book.now question result }
+    ensures value { result ≡ looked E.says E.unsettled book.now question }
+    ensures rule { Rule E.says E.unsettled book.now question result }
 {
     let mut i = book.len();
     loop {

@@ -67,7 +67,7 @@ fn play<E: Kind, C: Cabinet>(
     pool: &mut [Message<E>],
     next: Step<E>,
 ) -> Outcome<E>
-    ensures { site_step says unsettled (state site.old (cells cab.old).list books.old pool.old) next ≡ stepped_to result (state site.new (cells cab.new).list books.new pool.new) }
+    ensures { site_step E.says E.unsettled (state site.old (C.cells cab.old).list books.old pool.old) next ≡ stepped_to result (state site.new (C.cells cab.new).list books.new pool.new) }
 {
     match next {
         Step::Change { i, x } => outcomes::changed(site.change(books, pool, i, x)),
@@ -93,9 +93,9 @@ pub fn resume<E: Kind, C: Cabinet>(
     pool: &mut [Message<E>],
     turns: &mut [Turn<E>],
 )
-    ensures state { ran says unsettled (state site.old (cells cab.old).list books.old pool.old) (steps_of turns.old) ≡ state site.new (cells cab.new).list books.new pool.new }
-    ensures turns { played says unsettled (state site.old (cells cab.old).list books.old pool.old) turns.old ≡ turns.new }
-    ensures guarantee { GoesOn says unsettled (state site.old (cells cab.old).list books.old pool.old) (steps_of turns.old) (state site.new (cells cab.new).list books.new pool.new) }
+    ensures state { ran E.says E.unsettled (state site.old (C.cells cab.old).list books.old pool.old) (steps_of turns.old) ≡ state site.new (C.cells cab.new).list books.new pool.new }
+    ensures turns { played E.says E.unsettled (state site.old (C.cells cab.old).list books.old pool.old) turns.old ≡ turns.new }
+    ensures guarantee { GoesOn E.says E.unsettled (state site.old (C.cells cab.old).list books.old pool.old) (steps_of turns.old) (state site.new (C.cells cab.new).list books.new pool.new) }
 {
     for turn in turns.iter_mut() {
         turn.outcome = play(site, cab, books, pool, turn.step);
@@ -112,8 +112,8 @@ pub fn run<E: Kind, C: Cabinet>(
     cap: u16,
     turns: &mut [Turn<E>],
 ) -> Result<(), Fault>
-    ensures gives { made_and_ran says unsettled (make_step (state site.old (cells cab.old).list books.old pool.old) n cap) turns.old ≡ ran_to result (state site.new (cells cab.new).list books.new pool.new) turns.new }
-    ensures guarantee { result ≡ Ok tt → Guarantee says unsettled (make_step (state site.old (cells cab.old).list books.old pool.old) n cap).state (steps_of turns.old) }
+    ensures gives { made_and_ran E.says E.unsettled (make_step (state site.old (C.cells cab.old).list books.old pool.old) n cap) turns.old ≡ ran_to result (state site.new (C.cells cab.new).list books.new pool.new) turns.new }
+    ensures guarantee { result ≡ Ok tt → Guarantee E.says E.unsettled (make_step (state site.old (C.cells cab.old).list books.old pool.old) n cap).state (steps_of turns.old) }
 {
     site.make(cab, books, pool, n, cap)?;
     resume(site, cab, books, pool, turns);

@@ -60,10 +60,10 @@ impl Site {
         room: bool,
     ) -> Result<Option<Message<E>>, ControllerFault>
         requires { me.n * self.old.cap ≤ length books.old }
-        ensures result { result ≡ (delivery me.n me.number self.old (cells cab.old).list books.old message room).result }
-        ensures site { self.new ≡ with_row self.old me.number (delivery me.n me.number self.old (cells cab.old).list books.old message room).row }
-        ensures books { books.new ≡ with_part books.old self.old.cap me.number.number (delivery me.n me.number self.old (cells cab.old).list books.old message room).book }
-        ensures cells { (cells cab.new).list ≡ (delivery me.n me.number self.old (cells cab.old).list books.old message room).cells }
+        ensures result { result ≡ (delivery me.n me.number self.old (C.cells cab.old).list books.old message room).result }
+        ensures site { self.new ≡ with_row self.old me.number (delivery me.n me.number self.old (C.cells cab.old).list books.old message room).row }
+        ensures books { books.new ≡ with_part books.old self.old.cap me.number.number (delivery me.n me.number self.old (C.cells cab.old).list books.old message room).book }
+        ensures cells { (C.cells cab.new).list ≡ (delivery me.n me.number self.old (C.cells cab.old).list books.old message room).cells }
     {
         let cap = self.cap as usize;
         let start = start_of(me, self.cap);
@@ -79,7 +79,7 @@ impl Site {
         pool: &mut [Message<E>],
         j: u16,
     ) -> Result<Message<E>, Fault>
-        ensures { deliver_step (state self.old (cells cab.old).list books.old pool.old) j ≡ done result (state self.new (cells cab.new).list books.new pool.new) }
+        ensures { deliver_step (state self.old (C.cells cab.old).list books.old pool.old) j ≡ done result (state self.new (C.cells cab.new).list books.new pool.new) }
     {
         self.in_pool(books, pool, j)?;
         let message = message_at(pool, j as usize);

@@ -31,10 +31,10 @@ impl Site {
         room: bool,
     ) -> Result<Message<E>, ControllerFault>
         requires { (me.n * self.old.cap ≤ length books.old) × (leader.n * self.old.cap ≤ length books.old) }
-        ensures result { result ≡ (joining me.number leader.number self.old (cells cab.old).list books.old room).result }
-        ensures site { self.new ≡ with_row self.old me.number (joining me.number leader.number self.old (cells cab.old).list books.old room).row }
-        ensures books { books.new ≡ with_part books.old self.old.cap me.number.number (joining me.number leader.number self.old (cells cab.old).list books.old room).book }
-        ensures cells { (cells cab.new).list ≡ (joining me.number leader.number self.old (cells cab.old).list books.old room).cells }
+        ensures result { result ≡ (joining me.number leader.number self.old (C.cells cab.old).list books.old room).result }
+        ensures site { self.new ≡ with_row self.old me.number (joining me.number leader.number self.old (C.cells cab.old).list books.old room).row }
+        ensures books { books.new ≡ with_part books.old self.old.cap me.number.number (joining me.number leader.number self.old (C.cells cab.old).list books.old room).book }
+        ensures cells { (C.cells cab.new).list ≡ (joining me.number leader.number self.old (C.cells cab.old).list books.old room).cells }
     {
         let cap = self.cap as usize;
         let mine = start_of(me, self.cap);
@@ -65,7 +65,7 @@ impl Site {
         i: ControllerNumber,
         primary: ControllerNumber,
     ) -> Result<(), Fault>
-        ensures { join_step (state self.old (cells cab.old).list books.old pool.old) i primary ≡ done result (state self.new (cells cab.new).list books.new pool.new) }
+        ensures { join_step (state self.old (C.cells cab.old).list books.old pool.old) i primary ≡ done result (state self.new (C.cells cab.new).list books.new pool.new) }
     {
         let (me, leader) = self.pair(books, pool, i, primary)?;
         let room = self.has_room(pool);

@@ -29,7 +29,7 @@ fn same_row(a: Row, b: Row) -> bool
 
 // Whether cells 0 to n - 1 hold twice the view (0, 0).
 fn cells_are_zero<C: Cabinet>(cab: &C, n: u16) -> bool
-    ensures { result ≡ cells_zero (cells cab.now).list n }
+    ensures { result ≡ cells_zero (C.cells cab.now).list n }
 {
     let zero = CellRecord::zero().row();
     let mut k = n;
@@ -75,7 +75,7 @@ impl Site {
         n: u16,
         cap: u16,
     ) -> Result<(), Fault>
-        ensures { make_step (state self.old (cells cab.now).list books.now pool.now) n cap ≡ done result (state self.new (cells cab.now).list books.now pool.now) }
+        ensures { make_step (state self.old (C.cells cab.now).list books.now pool.now) n cap ≡ done result (state self.new (C.cells cab.now).list books.now pool.now) }
     {
         let named = Named::Controller {
             number: ControllerNumber { number: 0 },

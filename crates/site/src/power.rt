@@ -33,7 +33,7 @@ impl Site {
         pool: &[Message<E>],
         i: ControllerNumber,
     ) -> Result<(), Fault>
-        ensures { recover_step (state self.old (cells cab.now).list books.now pool.now) i ≡ done result (state self.new (cells cab.now).list books.now pool.now) }
+        ensures { recover_step (state self.old (C.cells cab.now).list books.now pool.now) i ≡ done result (state self.new (C.cells cab.now).list books.now pool.now) }
     {
         let me = self.member(books, pool, i)?;
         controller::recover(me, &mut self.rows[me.index()], cab)?;

@@ -128,7 +128,7 @@ impl Site {
         i: ControllerNumber,
         question: Question,
     ) -> Result<Answer, Fault>
-        ensures { (cs : List Cell) → lookup_step (state self.now cs books.now pool.now) says unsettled i question ≡ done result (state self.now cs books.now pool.now) }
+        ensures { (cs : List Cell) → lookup_step (state self.now cs books.now pool.now) E.says E.unsettled i question ≡ done result (state self.now cs books.now pool.now) }
     {
         let me = self.member(books, pool, i)?;
         let cap = self.cap as usize;

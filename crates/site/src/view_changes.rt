@@ -19,7 +19,7 @@ impl Site {
         pool: &[Message<E>],
         i: ControllerNumber,
     ) -> Result<(), Fault>
-        ensures { call_step (state self.old (cells cab.old).list books.now pool.now) i ≡ done result (state self.new (cells cab.new).list books.now pool.now) }
+        ensures { call_step (state self.old (C.cells cab.old).list books.now pool.now) i ≡ done result (state self.new (C.cells cab.new).list books.now pool.now) }
     {
         let me = self.member(books, pool, i)?;
         controller::call(me, &mut self.rows[me.index()], cab)?;

@@ -20,6 +20,6 @@ overflow-add-result c =
 
 pub returns : goal.returns
 returns c =
-    let mine = c.in-ok-part.ensures in
-    let place = slice_next c.args.self.now.bytes.now c.in-ok-part.part.now c.args.cell mine.0 mine.3 c.filled-slots-n.result c.filled-slots-n.ensures.value in
-    ap Some place ∙ sym (cond-false _ _ _ (not_worn (cell_at (cells_in c.args.self.now) c.args.cell) c.in-ok-part.part.now mine.2 (omega arith)))
+    let mine = c.in_ok-part.ensures in
+    let place = slice_next c.args.self.now.bytes.now c.in_ok-part.part.now c.args.cell mine.0 mine.3 c.filled_slots-n.result c.filled_slots-n.ensures.value in
+    ap Some place ∙ sym (cond-false _ _ _ (not_worn (cell_at (cells_in c.args.self.now) c.args.cell) c.in_ok-part.part.now mine.2 (omega arith)))

@@ -23,6 +23,6 @@ overflow-cast-result c =
 pub returns : goal.returns
 returns c =
     let s = c.args.self.now in
-    let here = cell_sound s.sound s.bytes.now c.args.cell c.if-not-self.false c.if-cell-ge7.false ∙ ap part_cell (sym c.part-of-part.ensures) in
+    let here = cell_sound s.sound s.bytes.now c.args.cell c.if-not-self.false c.if-cell-ge7.false ∙ ap part_cell (sym c.part_of-part.ensures) in
     let left = ap (λ (x : Cell). x.left) here in
-    omega (arith, sym left, c.filled-slots.ensures.value)
+    omega (arith, sym left, c.filled_slots.ensures.value)

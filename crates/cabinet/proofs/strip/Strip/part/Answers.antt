@@ -12,8 +12,8 @@ returns c =
     let s = c.args.self.now in
     let form = told_sound s.sound s.bytes.now s.tells c.if-not-self.false in
     let here = cell_sound s.sound s.bytes.now c.args.cell c.if-not-self.false c.if-cell-ge7.false in (
-      c.part-of.ensures,
-      subst PartForm (sym c.part-of.ensures) (form.parts c.args.cell c.if-cell-ge7.false),
-      here ∙ ap part_cell (sym c.part-of.ensures),
+      c.part_of.ensures,
+      subst PartForm (sym c.part_of.ensures) (form.parts c.args.cell c.if-cell-ge7.false),
+      here ∙ ap part_cell (sym c.part_of.ensures),
       c.if-cell-ge7.false,
     )

@@ -14,7 +14,7 @@ loop-k-init c =
     let i = c.in-Some.at in
     let found = found_some s.sound s.bytes.now c.args.cell i c.in-Some.ensures in
     let fits = found_fits s.sound s.bytes.now c.args.cell i found in
-    (refl, refl, writing_none s.bytes.now i c.slot-of-slot.result fits (found_free s.sound s.bytes.now c.args.cell i found))
+    (refl, refl, writing_none s.bytes.now i c.slot_of-slot.result fits (found_free s.sound s.bytes.now c.args.cell i found))
 
 pub overflow-add-self : goal.overflow-add-self
 overflow-add-self c =
@@ -30,7 +30,7 @@ bounds-self-at c =
     let i = c.in-Some.at in
     let found = found_some s.sound s.bytes.now c.args.cell i c.in-Some.ensures in
     let fits = found_fits s.sound s.bytes.now c.args.cell i found in
-    omega (arith, writing_length s.bytes.now i c.slot-of-slot.result fits c.loop-k.k c.loop-k.self.bytes.now c.loop-k.invariant.2)
+    omega (arith, writing_length s.bytes.now i c.slot_of-slot.result fits c.loop-k.k c.loop-k.self.bytes.now c.loop-k.invariant.2)
 
 pub invariant-of-self : goal.invariant-of-self
 invariant-of-self c =
@@ -48,7 +48,7 @@ loop-k-preserved c =
     let i = c.in-Some.at in
     let found = found_some s.sound s.bytes.now c.args.cell i c.in-Some.ensures in
     let fits = found_fits s.sound s.bytes.now c.args.cell i found in
-    (c.loop-k.invariant.0, c.loop-k.invariant.1, writing_more s.bytes.now i c.slot-of-slot.result fits c.loop-k.k c.loop-k.self.bytes.now c.loop-k.invariant.2 c.loop-k.auto.k c.loop-k-test.true)
+    (c.loop-k.invariant.0, c.loop-k.invariant.1, writing_more s.bytes.now i c.slot_of-slot.result fits c.loop-k.k c.loop-k.self.bytes.now c.loop-k.invariant.2 c.loop-k.auto.k c.loop-k-test.true)
 
 pub bounds-self-at-2 : goal.bounds-self-at-2
 bounds-self-at-2 c =
@@ -56,7 +56,7 @@ bounds-self-at-2 c =
     let i = c.in-Some.at in
     let found = found_some s.sound s.bytes.now c.args.cell i c.in-Some.ensures in
     let fits = found_fits s.sound s.bytes.now c.args.cell i found in
-    omega (arith, writing_length s.bytes.now i c.slot-of-slot.result fits c.loop-k.k c.loop-k.self.bytes.now c.loop-k.invariant.2)
+    omega (arith, writing_length s.bytes.now i c.slot_of-slot.result fits c.loop-k.k c.loop-k.self.bytes.now c.loop-k.invariant.2)
 
 pub invariant-of-self-2 : goal.invariant-of-self-2
 invariant-of-self-2 c =
@@ -77,9 +77,9 @@ returns c =
     let found = found_some s.sound s.bytes.now c.args.cell i c.in-Some.ensures in
     let fits = found_fits s.sound s.bytes.now c.args.cell i found in
     let form = told_sound s.sound s.bytes.now s.tells found.sound in
-    let slot = c.slot-of-slot.result in
+    let slot = c.slot_of-slot.result in
     let done : set c.loop-k.self.bytes.now i (get_or slot 0 0) ≡ with_slot s.bytes.now i (row_of c.args.new) =
-    writing_all s.bytes.now i slot fits c.loop-k.k c.loop-k.self.bytes.now c.loop-k.invariant.2 c.loop-k-test.false (ap length c.slot-of-slot.ensures.bytes) ∙ ap (over s.bytes.now i 8) c.slot-of-slot.ensures.bytes in
+    writing_all s.bytes.now i slot fits c.loop-k.k c.loop-k.self.bytes.now c.loop-k.invariant.2 c.loop-k-test.false (ap length c.slot_of-slot.ensures.bytes) ∙ ap (over s.bytes.now i 8) c.slot_of-slot.ensures.bytes in
     record {
       result = sym (cond-false _ _ _ found.left);
       after = ap (λ b. strip_cells b (set c.loop-k.self.bytes.now i (get_or slot 0 0))) c.loop-k.invariant.0 ∙ ap (strip_cells s.sound) done ∙ put_done s.sound s.bytes.now c.args.cell i found form (row_of c.args.new);
