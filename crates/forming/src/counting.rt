@@ -1,6 +1,6 @@
 // Counting and searching a table of seven by a test. A test is a value of a type of its own.
 ghost use Rattle.std.specs.Prelude.{◌≡◌, ◌<◌, Bool, length, IfSome};
-ghost use Rattle.forming.specs.Counting.{count as count_of, every as every_of, some as SomeOf, first as first_of};
+ghost use Rattle.forming.specs.Counting.{count as count_of, every as every_of, some as some_of, first as first_of};
 
 pub trait Test<A> {
     ghost passes: { Self → A → Bool };
@@ -24,7 +24,7 @@ pub fn count<A: Copy, T: Test<A> + Drop>(xs: &[A], test: T) -> usize
 
 // Whether some one passes the test.
 pub fn some<A: Copy, T: Test<A> + Drop>(xs: &[A], test: T) -> bool
-    ensures { result ≡ SomeOf (T.Test.passes test) xs.now }
+    ensures { result ≡ some_of (T.Test.passes test) xs.now }
 {
     for x in xs {
         if test.check(*x) {
