@@ -1,5 +1,5 @@
 use Rattle.std.proofs.Common.{inl, inr, rules}
 use Rattle.controller.proofs.view_changes.call.Goals as goal
 
-pub returns-in-err-put-views : goal.returns-in-err-put-views
-returns-in-err-put-views g c = elim c.in-err-put-views.ensures.result [ inl worn ↦ search rules | inr bad ↦ search rules ]
+pub returns-in_err-put_views : goal.returns-in_err-put_views
+returns-in_err-put_views g c = elim c.in_err-put_views.ensures.result [ inl worn ↦ search rules | inr bad ↦ search rules ]

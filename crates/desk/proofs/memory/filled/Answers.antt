@@ -4,6 +4,6 @@ use Rattle.desk.proofs.memory.filled.Goals as goal
 
 pub loop-i-preserved : goal.loop-i-preserved
 loop-i-preserved g c =
-    c.in-ok-push.ensures.items
+    c.in_ok-push.ensures.items
     ∙ ap (λ ys. ys ++ c.args.x ∷ []) c.loop-i.invariant
     ∙ replicate_more c.loop-i.-i c.args.x

@@ -6,16 +6,16 @@ use Rattle.cabinet.proofs.Cuts.{slice_next, slice_within}
 use Rattle.cabinet.proofs.Strips.{not_worn}
 use Rattle.cabinet.proofs.strip.Strip.first_empty.Goals as goal
 
-pub overflow-mul-result : goal.overflow-mul-result
-overflow-mul-result c =
-    let mine = c.in-ok-part.ensures in
-    let within = slice_within c.args.self.now.bytes.now c.in-ok-part.part.now c.args.cell mine.0 mine.3 in
+pub overflow_mul-result : goal.overflow_mul-result
+overflow_mul-result c =
+    let mine = c.in_ok-part.ensures in
+    let within = slice_within c.args.self.now.bytes.now c.in_ok-part.part.now c.args.cell mine.0 mine.3 in
     search rules
 
-pub overflow-add-result : goal.overflow-add-result
-overflow-add-result c =
-    let mine = c.in-ok-part.ensures in
-    let within = slice_within c.args.self.now.bytes.now c.in-ok-part.part.now c.args.cell mine.0 mine.3 in
+pub overflow_add-result : goal.overflow_add-result
+overflow_add-result c =
+    let mine = c.in_ok-part.ensures in
+    let within = slice_within c.args.self.now.bytes.now c.in_ok-part.part.now c.args.cell mine.0 mine.3 in
     search rules
 
 pub returns : goal.returns

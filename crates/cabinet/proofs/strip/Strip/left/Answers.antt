@@ -11,13 +11,13 @@ returns-then-not-self c =
     let s = c.args.self.now in
     sym (ap (λ (x : Cell). x.left) (cell_other s.sound s.bytes.now c.args.cell c.then-not-self.either))
 
-pub overflow-cast-result : goal.overflow-cast-result
-overflow-cast-result c =
+pub overflow_cast-result : goal.overflow_cast-result
+overflow_cast-result c =
     let s = c.args.self.now in
     let form = told_sound s.sound s.bytes.now s.tells c.if-not-self.false in
     let most = form.most in
     let size = part_length s.bytes.now c.args.cell c.if-cell-ge7.false in
-    let long = ap length c.part-of-part.ensures in
+    let long = ap length c.part_of-part.ensures in
     search rules
 
 pub returns : goal.returns

@@ -1,4 +1,4 @@
 use Rattle.cabinet.proofs.strip.Strip.new.Goals as goal
 
-pub invariant-of-result : goal.invariant-of-result
-invariant-of-result c = (∣ c.bytes-are-in-form-sound.ensures ∣₁, tt)
+pub invariant_of-result : goal.invariant_of-result
+invariant_of-result c = record { tells = ∣ c.bytes_are_in_form-sound.ensures ∣₁ }

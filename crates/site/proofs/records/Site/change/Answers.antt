@@ -7,28 +7,28 @@ use Rattle.site.proofs.Lent.{part_same}
 use Rattle.site.proofs.Stepping.{refused_as, rows_back, site_stop, taken_as}
 use Rattle.site.proofs.records.Site.change.Goals as goal
 
-pub returns-in-err-me : goal.returns-in-err-me
-returns-in-err-me g c cs =
+pub returns-in_err-me : goal.returns-in_err-me
+returns-in_err-me g c cs =
     let s = state c.args.self.now cs c.args.books.now c.args.pool.now in
     let i = c.args.i in
-    let p = err_from_is_err_and c.from-residual.result c.from-residual.ensures.1 in
-    site_stop s i (after_change s i (writing i c.args.self.now c.args.books.now c.args.x)) c.in-err-me.field-0.0 c.in-err-me.ensures
+    let p = err_from_is_err_and c.from_residual.result c.from_residual.ensures.1 in
+    site_stop s i (after_change s i (writing i c.args.self.now c.args.books.now c.args.x)) c.in_err-me.field-0.0 c.in_err-me.ensures
     ∙ ap (λ r. done r s) (sym (p.1 ∙ ap (λ z. Err z) p.2))
 
-pub returns-in-err-slip : goal.returns-in-err-slip
-returns-in-err-slip g c cs =
+pub returns-in_err-slip : goal.returns-in_err-slip
+returns-in_err-slip g c cs =
     let x = c.args.self.now in
     let books = c.args.books.now in
     let s = state x cs books c.args.pool.now in
     let i = c.args.i in
-    let k = c.in-ok-me.me.number in
-    let m = c.in-ok-me.ensures in
-    let f = c.in-err-slip.field-0.0 in
-    let was = c.in-err-slip.ensures in
+    let k = c.in_ok-me.me.number in
+    let m = c.in_ok-me.ensures in
+    let f = c.in_err-slip.field-0.0 in
+    let was = c.in_err-slip.ensures in
     let kept = changed_kept k (row_of x k) (part books x.cap k.number) c.args.x f (sym was.result) in
     let o = writing i x books c.args.x in
     let e : o.result ≡ Err f = sym (ap (λ z. (writing z x books c.args.x).result) m.number) ∙ sym was.result in
-    let p = err_from_is_err_and c.from-residual-in-err-slip.result c.from-residual-in-err-slip.ensures.1 in
+    let p = err_from_is_err_and c.from_residual-in_err-slip.result c.from_residual-in_err-slip.ensures.1 in
     refused_as x cs books c.args.pool.now i m.made m.below (after_change s i o) f _ _ _ _
     (ap (λ z. placed s z (put_all s i o.row o.book cs)) e)
     (p.1 ∙ ap (λ z. Err z) p.2)
@@ -42,11 +42,11 @@ returns g c cs =
     let books = c.args.books.now in
     let s = state x cs books c.args.pool.now in
     let i = c.args.i in
-    let m = c.in-ok-me.ensures in
-    let was = c.in-ok-slip.ensures in
+    let m = c.in_ok-me.ensures in
+    let was = c.in_ok-slip.ensures in
     let o = writing i x books c.args.x in
-    let e : o.result ≡ Ok c.in-ok-slip.slip = sym (ap (λ z. (writing z x books c.args.x).result) m.number) ∙ sym was.result in
-    taken_as x cs books c.args.pool.now i m.made m.below (after_change s i o) c.in-ok-slip.slip _ _ _ _ _ _
+    let e : o.result ≡ Ok c.in_ok-slip.slip = sym (ap (λ z. (writing z x books c.args.x).result) m.number) ∙ sym was.result in
+    taken_as x cs books c.args.pool.now i m.made m.below (after_change s i o) c.in_ok-slip.slip _ _ _ _ _ _
     (ap (λ z. placed s z (put_all s i o.row o.book cs)) e)
     (was.site ∙ ap (λ z. with_row x z (writing z x books c.args.x).row) m.number)
     refl

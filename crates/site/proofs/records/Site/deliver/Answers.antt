@@ -13,11 +13,11 @@ send-requires g c =
     let pool = c.args.pool.now in
     let me = c.in-Ok.me in
     let cs = (g.C.Cabinet.cells c.args.cab.now).list in
-    let m = c.message-at-message.result in
-    let answered : (delivery me.n me.number x cs c.args.books.now m c.has-room-room.result).result ≡ Ok (Some c.in-Ok-Some.reply) = search rules in
-    let room = delivered_room me.number (row_of x me.number) m me.n (part c.args.books.now x.cap me.number.number) cs c.has-room-room.result c.in-Ok-Some.reply answered in
-    let less : x.count < length pool = ltb-true x.count (length pool) (sym c.has-room-room.ensures ∙ room) in
-    let few = c.in-ok-in-pool.ensures.few in
+    let m = c.message_at-message.result in
+    let answered : (delivery me.n me.number x cs c.args.books.now m c.has_room-room.result).result ≡ Ok (Some c.in-Ok-Some.reply) = search rules in
+    let room = delivered_room me.number (row_of x me.number) m me.n (part c.args.books.now x.cap me.number.number) cs c.has_room-room.result c.in-Ok-Some.reply answered in
+    let less : x.count < length pool = ltb-true x.count (length pool) (sym c.has_room-room.ensures ∙ room) in
+    let few = c.in_ok-in_pool.ensures.few in
     let count : c.hand.new.self.count ≡ x.count = ap (λ z. z.count) c.hand.ensures.site in
     (omega (arith, count, less), omega (arith, count, less, few))
 
@@ -29,22 +29,22 @@ returns-in-Err g c =
     let pool = c.args.pool.now in
     let j = c.args.j in
     let s = state x cs books pool in
-    let m = c.message-at-message.result in
+    let m = c.message_at-message.result in
     let me = c.in-Ok.me in
     let f = c.in-Err.fault in
-    let asked = c.in-ok-in-pool.ensures in
+    let asked = c.in_ok-in_pool.ensures in
     let known = c.in-Ok.ensures in
     let was = c.hand.ensures in
     let refused = c.in-Err.ensures.result in
-    let kept = delivered_kept me.number (row_of x me.number) m me.n (part books x.cap me.number.number) cs c.has-room-room.result f (sym refused) in
-    let same : delivery me.n me.number x cs books m c.has-room-room.result ≡ delivery x.n m.addressee x cs books m (has_room s) =
-    ap (λ z. delivery z me.number x cs books m c.has-room-room.result) known.1.1
-    ∙ ap (λ z. delivery x.n z x cs books m c.has-room-room.result) known.1.0
-    ∙ ap (λ z. delivery x.n m.addressee x cs books m z) c.has-room-room.ensures in
+    let kept = delivered_kept me.number (row_of x me.number) m me.n (part books x.cap me.number.number) cs c.has_room-room.result f (sym refused) in
+    let same : delivery me.n me.number x cs books m c.has_room-room.result ≡ delivery x.n m.addressee x cs books m (has_room s) =
+    ap (λ z. delivery z me.number x cs books m c.has_room-room.result) known.1.1
+    ∙ ap (λ z. delivery x.n z x cs books m c.has_room-room.result) known.1.0
+    ∙ ap (λ z. delivery x.n m.addressee x cs books m z) c.has_room-room.ensures in
     delivery_refused s j m _ (delivery x.n m.addressee x cs books m (has_room s)) f _ _ _ _
-    (deliver_go s j m asked.made (lt-ltb j x.count asked.below) c.message-at-message.ensures known.0)
+    (deliver_go s j m asked.made (lt-ltb j x.count asked.below) c.message_at-message.ensures known.0)
     (sym (ap (λ z. z.result) same) ∙ sym refused)
-    (ap (λ z. Err z) c.of-message.ensures)
+    (ap (λ z. Err z) c.of_message.ensures)
     (was.site ∙ rows_back x me.number.number _ kept.0)
     (was.cells ∙ kept.1.1)
     (was.books ∙ ap (λ z. with_part books x.cap me.number.number z) kept.1.0 ∙ part_same books x.cap me.number.number)

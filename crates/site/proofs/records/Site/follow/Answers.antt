@@ -9,8 +9,8 @@ use Rattle.site.proofs.Lent.{part_same}
 use Rattle.site.proofs.Stepping.{rows_placed}
 use Rattle.site.proofs.records.Site.follow.Goals as goal
 
-pub returns-in-err-message : goal.returns-in-err-message
-returns-in-err-message g c =
+pub returns-in_err-message : goal.returns-in_err-message
+returns-in_err-message g c =
     let x = c.args.self.now in
     let cap = x.cap in
     let books = c.args.books.now in
@@ -18,11 +18,11 @@ returns-in-err-message g c =
     let i = c.args.me.number in
     let p = c.args.leader.number in
     let room = c.args.room in
-    let was = c.in-err-message.ensures in
-    let f = c.in-err-message.field-0.0 in
-    let same = joined_lent i p x cs books room c.index-2.result c.index.result c.start-of-mine.result c.start-of-theirs.result c.index-2.ensures.value c.index.ensures.value c.start-of-mine.ensures.value c.start-of-theirs.ensures.value in
+    let was = c.in_err-message.ensures in
+    let f = c.in_err-message.field-0.0 in
+    let same = joined_lent i p x cs books room c.index-2.result c.index.result c.start_of-mine.result c.start_of-theirs.result c.index-2.ensures.value c.index.ensures.value c.start_of-mine.ensures.value c.start_of-theirs.ensures.value in
     let kept = joined_kept i (row_of x i) (part books cap i.number) cs p (row_of x p) (part books cap p.number) room f (sym (was.result ∙ ap (λ o. o.result) same)) in
-    let e = err_from_is_err_and c.from-residual.result c.from-residual.ensures.1 in
+    let e = err_from_is_err_and c.from_residual.result c.from_residual.ensures.1 in
     record {
       result = e.1 ∙ ap (λ z. Err z) e.2 ∙ was.result ∙ ap (λ o. o.result) same;
       site = rows_placed x c.index-2.result i c.join.new.row _ c.index-2.ensures.value (was.row ∙ ap (λ o. o.row) same);
@@ -39,17 +39,17 @@ returns g c =
     let i = c.args.me.number in
     let p = c.args.leader.number in
     let room = c.args.room in
-    let was = c.in-ok-message.ensures in
+    let was = c.in_ok-message.ensures in
     let k = c.index.result in
-    let mine = c.start-of-mine.result in
-    let theirs = c.start-of-theirs.result in
-    let same = joined_lent i p x cs books room c.index-2.result k mine theirs c.index-2.ensures.value c.index.ensures.value c.start-of-mine.ensures.value c.start-of-theirs.ensures.value in
-    let taken = joined_taken i (row_of x i) (part books cap i.number) cs p (row_of x p) (part books cap p.number) room c.in-ok-message.message (sym (was.result ∙ ap (λ o. o.result) same)) in
-    let within : p.number * cap + cap ≤ length books = omega (arith, c.start-of-theirs.ensures.value, c.start-of-theirs.ensures.within, c.requires.1) in
+    let mine = c.start_of-mine.result in
+    let theirs = c.start_of-theirs.result in
+    let same = joined_lent i p x cs books room c.index-2.result k mine theirs c.index-2.ensures.value c.index.ensures.value c.start_of-mine.ensures.value c.start_of-theirs.ensures.value in
+    let taken = joined_taken i (row_of x i) (part books cap i.number) cs p (row_of x p) (part books cap p.number) room c.in_ok-message.message (sym (was.result ∙ ap (λ o. o.result) same)) in
+    let within : p.number * cap + cap ≤ length books = omega (arith, c.start_of-theirs.ensures.value, c.start_of-theirs.ensures.within, c.requires.1) in
     let l = (row_of x p).length in
     let few : theirs + c.used.result - theirs ≡ c.used.result = omega arith in
     let short : c.used.result ≡ min l cap = c.used.ensures ∙ ap (λ n. min (get_or x.rows n down_record).length cap) c.index.ensures.value in
-    let copy : c.copy-within.new.self ≡ paste books (i.number * cap) (drop (p.number * cap) books) (min l cap) = cc (c.copy-within.ensures.after, c.start-of-mine.ensures.value, c.start-of-theirs.ensures.value) in
+    let copy : c.copy_within.new.self ≡ paste books (i.number * cap) (drop (p.number * cap) books) (min l cap) = cc (c.copy_within.ensures.after, c.start_of-mine.ensures.value, c.start_of-theirs.ensures.value) in
     record {
       result = was.result ∙ ap (λ o. o.result) same;
       site = rows_placed x c.index-2.result i c.join.new.row _ c.index-2.ensures.value (was.row ∙ ap (λ o. o.row) same);

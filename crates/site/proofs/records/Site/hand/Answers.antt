@@ -14,9 +14,9 @@ returns g c =
     let books = c.args.books.now in
     let cs = (g.C.Cabinet.cells c.args.cab.now).list in
     let i = c.args.me.number in
-    let a = c.start-of-start.result in
+    let a = c.start_of-start.result in
     let j = c.index.result in
-    let begins : a ≡ i.number * cap = c.start-of-start.ensures.value in
+    let begins : a ≡ i.number * cap = c.start_of-start.ensures.value in
     let same : delivered c.args.me.n i (get_or x.rows j down_record) (take (a + cap - a) (drop a books)) cs c.args.message c.args.room ≡ delivery c.args.me.n i x cs books c.args.message c.args.room =
     ap (λ z. delivered c.args.me.n i (get_or x.rows z down_record) (take (a + cap - a) (drop a books)) cs c.args.message c.args.room) c.index.ensures.value
     ∙ ap (λ z. delivered c.args.me.n i (row_of x i) z cs c.args.message c.args.room) (part_lent books cap i.number a begins) in

@@ -9,4 +9,4 @@ returns g c =
     let made : made_with x (length c.args.books.now) (length c.args.pool.now) ≡ true = search rules in
     let long : length c.args.pool.now ≡ x.pool = made_pool x (length c.args.books.now) (length c.args.pool.now) made in
     let counted : x.count ≤ x.pool = made_count x (length c.args.books.now) (length c.args.pool.now) made in
-    record { made = made; below = search rules; counted = search rules; few = c.is-made.ensures.few (search rules) }
+    record { made = made; below = search rules; counted = search rules; few = c.is_made.ensures.few (search rules) }

@@ -13,5 +13,5 @@ returns-in-Ok g c =
       size = c.in-Ok.ensures.1.1;
       books_long = made_books c.args.self.now (length c.args.books.now) (length c.args.pool.now) made;
       pool_long = made_pool c.args.self.now (length c.args.books.now) (length c.args.pool.now) made;
-      few = c.is-made.ensures.few (search rules);
+      few = c.is_made.ensures.few (search rules);
     }

@@ -11,7 +11,7 @@ returns g c =
     let cap = x.cap in
     let books = c.args.books.now in
     let i = c.args.me.number in
-    let a = c.start-of-start.result in
+    let a = c.start_of-start.result in
     c.pass.ensures
     ∙ ap (λ z. passed i (get_or x.rows z down_record) (take (a + cap - a) (drop a books)) c.args.to c.args.place c.args.room) c.index.ensures.value
-    ∙ ap (λ z. passed i (row_of x i) z c.args.to c.args.place c.args.room) (part_lent books cap i.number a c.start-of-start.ensures.value)
+    ∙ ap (λ z. passed i (row_of x i) z c.args.to c.args.place c.args.room) (part_lent books cap i.number a c.start_of-start.ensures.value)

@@ -11,7 +11,7 @@ returns g c =
     let cap = x.cap in
     let books = c.args.books.now in
     let me = c.args.me in
-    let a = c.start-of-start.result in
+    let a = c.start_of-start.result in
     c.settle.ensures
     ∙ ap (λ z. settled me.n me.number (get_or x.rows z down_record) (take (a + cap - a) (drop a books)) c.args.slip) c.index.ensures.value
-    ∙ ap (λ z. settled me.n me.number (row_of x me.number) z c.args.slip) (part_lent books cap me.number.number a c.start-of-start.ensures.value)
+    ∙ ap (λ z. settled me.n me.number (row_of x me.number) z c.args.slip) (part_lent books cap me.number.number a c.start_of-start.ensures.value)

@@ -13,9 +13,9 @@ returns g c =
     let cap = x.cap in
     let books = c.args.books.now in
     let i = c.args.me.number in
-    let a = c.start-of-start.result in
+    let a = c.start_of-start.result in
     let j = c.index.result in
-    let begins : a ≡ i.number * cap = c.start-of-start.ensures.value in
+    let begins : a ≡ i.number * cap = c.start_of-start.ensures.value in
     let same : changed i (get_or x.rows j down_record) (take (a + cap - a) (drop a books)) c.args.x ≡ writing i x books c.args.x =
     ap (λ z. changed i (get_or x.rows z down_record) (take (a + cap - a) (drop a books)) c.args.x) c.index.ensures.value
     ∙ ap (λ z. changed i (row_of x i) z c.args.x) (part_lent books cap i.number a begins) in

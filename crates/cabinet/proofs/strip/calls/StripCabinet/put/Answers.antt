@@ -16,8 +16,8 @@ loop-k-init c =
     let fits = found_fits s.sound s.bytes.now c.args.cell i found in
     (refl, refl, writing_none s.bytes.now i c.slot_of-slot.result fits (found_free s.sound s.bytes.now c.args.cell i found))
 
-pub overflow-add-self : goal.overflow-add-self
-overflow-add-self c =
+pub overflow_add-self : goal.overflow_add-self
+overflow_add-self c =
     let s = c.args.self.now in
     let i = c.in-Some.at in
     let found = found_some s.sound s.bytes.now c.args.cell i c.in-Some.ensures in
@@ -32,15 +32,15 @@ bounds-self-at c =
     let fits = found_fits s.sound s.bytes.now c.args.cell i found in
     omega (arith, writing_length s.bytes.now i c.slot_of-slot.result fits c.loop-k.k c.loop-k.self.bytes.now c.loop-k.invariant.2)
 
-pub invariant-of-self : goal.invariant-of-self
-invariant-of-self c =
+pub invariant_of-self : goal.invariant_of-self
+invariant_of-self c =
     let s = c.args.self.now in
     let i = c.in-Some.at in
     let found = found_some s.sound s.bytes.now c.args.cell i c.in-Some.ensures in
     let fits = found_fits s.sound s.bytes.now c.args.cell i found in
     let form = told_sound s.sound s.bytes.now s.tells found.sound in
-    let more = writing_more s.bytes.now i c.slot-of-slot.result fits c.loop-k.k c.loop-k.self.bytes.now c.loop-k.invariant.2 c.loop-k.auto.k c.loop-k-test.true in
-    (∣ sound_told c.loop-k.self.sound _ (c.loop-k.invariant.0 ∙ found.sound) (writing_form s.sound s.bytes.now c.args.cell i found form c.slot-of-slot.result (c.loop-k.k + 1) _ more) ∣₁, tt)
+    let more = writing_more s.bytes.now i c.slot_of-slot.result fits c.loop-k.k c.loop-k.self.bytes.now c.loop-k.invariant.2 c.loop-k.auto.k c.loop-k-test.true in
+    record { tells = ∣ sound_told c.loop-k.self.sound _ (c.loop-k.invariant.0 ∙ found.sound) (writing_form s.sound s.bytes.now c.args.cell i found form c.slot_of-slot.result (c.loop-k.k + 1) _ more) ∣₁ }
 
 pub loop-k-preserved : goal.loop-k-preserved
 loop-k-preserved c =
@@ -58,17 +58,17 @@ bounds-self-at-2 c =
     let fits = found_fits s.sound s.bytes.now c.args.cell i found in
     omega (arith, writing_length s.bytes.now i c.slot_of-slot.result fits c.loop-k.k c.loop-k.self.bytes.now c.loop-k.invariant.2)
 
-pub invariant-of-self-2 : goal.invariant-of-self-2
-invariant-of-self-2 c =
+pub invariant_of-self-2 : goal.invariant_of-self-2
+invariant_of-self-2 c =
     let s = c.args.self.now in
     let i = c.in-Some.at in
     let found = found_some s.sound s.bytes.now c.args.cell i c.in-Some.ensures in
     let fits = found_fits s.sound s.bytes.now c.args.cell i found in
     let form = told_sound s.sound s.bytes.now s.tells found.sound in
-    let slot = c.slot-of-slot.result in
+    let slot = c.slot_of-slot.result in
     let done : set c.loop-k.self.bytes.now i (get_or slot 0 0) ≡ with_slot s.bytes.now i (row_of c.args.new) =
-    writing_all s.bytes.now i slot fits c.loop-k.k c.loop-k.self.bytes.now c.loop-k.invariant.2 c.loop-k-test.false (ap length c.slot-of-slot.ensures.bytes) ∙ ap (over s.bytes.now i 8) c.slot-of-slot.ensures.bytes in
-    (∣ sound_told c.loop-k.self.sound _ (c.loop-k.invariant.0 ∙ found.sound) (subst StripForm (sym done) (put_form s.sound s.bytes.now c.args.cell i found form (row_of c.args.new) c.args.new.kept)) ∣₁, tt)
+    writing_all s.bytes.now i slot fits c.loop-k.k c.loop-k.self.bytes.now c.loop-k.invariant.2 c.loop-k-test.false (ap length c.slot_of-slot.ensures.bytes) ∙ ap (over s.bytes.now i 8) c.slot_of-slot.ensures.bytes in
+    record { tells = ∣ sound_told c.loop-k.self.sound _ (c.loop-k.invariant.0 ∙ found.sound) (subst StripForm (sym done) (put_form s.sound s.bytes.now c.args.cell i found form (row_of c.args.new) c.args.new.kept)) ∣₁ }
 
 pub returns : goal.returns
 returns c =
