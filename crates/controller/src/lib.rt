@@ -15,6 +15,7 @@ mod view_changes;
 
 pub use deliveries::deliver;
 pub use faults::Fault;
+pub use forming::{Member, choice};
 pub use joins::join;
 pub use power::{crash, recover};
 pub use primaries::{change, lookup, pass};

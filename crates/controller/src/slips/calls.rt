@@ -9,7 +9,7 @@ use numbers::{Refusal, Stamp};
 
 impl Slip {
     // The slip of a stamp.
-    pub(crate) fn of(stamp: Stamp) -> Slip
+    pub fn of(stamp: Stamp) -> Slip
         ensures { result ≡ slip_of stamp }
     {
         Slip {
