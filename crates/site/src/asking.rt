@@ -18,7 +18,7 @@ pub fn start_of(me: Member, cap: u16) -> usize
 
 impl Site {
     // Whether the site is made, with memory of these lengths.
-    pub(crate) fn is_made<E>(&self, books: &[Entry<E>], pool: &[Message<E>]) -> bool
+    pub fn is_made<E>(&self, books: &[Entry<E>], pool: &[Message<E>]) -> bool
         ensures value { result ≡ made_with self.now (length books.now) (length pool.now) }
         ensures few { result ≡ true → length pool.now ≤ 65535 }
     {
@@ -29,14 +29,14 @@ impl Site {
     }
 
     // Whether the pool has room for one more message.
-    pub(crate) fn has_room<E>(&self, pool: &[Message<E>]) -> bool
+    pub fn has_room<E>(&self, pool: &[Message<E>]) -> bool
         ensures { result ≡ nat_lt self.now.count (length pool.now) }
     {
         (self.count as usize) < pool.len()
     }
 
     // Controller i of this site.
-    pub(crate) fn member<E>(
+    pub fn member<E>(
         &self,
         books: &[Entry<E>],
         pool: &[Message<E>],
@@ -60,7 +60,7 @@ impl Site {
     }
 
     // Controllers i and b of this site, which are two.
-    pub(crate) fn pair<E>(
+    pub fn pair<E>(
         &self,
         books: &[Entry<E>],
         pool: &[Message<E>],
@@ -86,7 +86,7 @@ impl Site {
     }
 
     // Puts a message at the end of the pool.
-    pub(crate) fn send<E: Copy>(&mut self, pool: &mut [Message<E>], message: Message<E>)
+    pub fn send<E: Copy>(&mut self, pool: &mut [Message<E>], message: Message<E>)
         requires { (self.old.count < length pool.old) × (self.old.count < 65535) }
         ensures site { self.new ≡ with_count self.old (self.old.count + 1) }
         ensures pool { pool.new ≡ slice_set pool.old self.old.count message }
