@@ -55,7 +55,7 @@ module _ {E : Type 0} (s : State E) where
   has_room = nat_lt s.site.count (length s.pool)
 
   abbrev pub row : ControllerNumber → Controller
-  row i = row_of s.site i
+  row i = slice_index_or s.site.rows i.number down_record
 
   abbrev pub book : ControllerNumber → List (Entry E)
   book i = part s.books s.site.cap i.number

@@ -90,10 +90,10 @@ module _ {E : Type 0} (s : State E) where
   after_change i o = placed s o.result (put_all s i o.row o.book s.cells)
 
   abbrev pub change_step : ControllerNumber → E → Done Slip E
-  change_step i x = asks (site_asks s i) (refuse s i) (after_change i (writing i s.site s.books x))
+  change_step i x = asks (site_asks s i) (refuse s i) (after_change i (changed i (row s i) (book s i) x))
 
   abbrev pub pass_step : ControllerNumber → ControllerNumber → Place → Done (Unit {0}) E
-  pass_step i b k = asks (pair_asks s i b) (refuse s i) (sending s (λ m. tt) (passing i s.site s.books b k (has_room s)) s)
+  pass_step i b k = asks (pair_asks s i b) (refuse s i) (sending s (λ m. tt) (passed i (row s i) (book s i) b k (has_room s)) s)
 
   abbrev pub after_call : ControllerNumber → Put (Unit {0}) → Done (Unit {0}) E
   after_call i o = placed s o.result (put_cell s i o.row o.cells)
@@ -118,7 +118,7 @@ module _ {E : Type 0} (s : State E) where
   deliver_message j None = refuse_about s j 3
   deliver_message j (Some m) =
       asks (q 4 (is_member s.site.n m.addressee) ∷ []) (refuse_about s j)
-      (after_delivery j m (delivery s.site.n m.addressee s.site s.cells s.books m (has_room s)))
+      (after_delivery j m (delivered s.site.n m.addressee (row s m.addressee) (book s m.addressee) s.cells m (has_room s)))
 
   -- message j of the pool is taken by its addressee
   abbrev pub deliver_step : ℕ → Done (Message E) E
@@ -130,11 +130,11 @@ module _ {E : Type 0} (s : State E) where
   after_join i o = sending s (λ m. tt) o.result (put_all s i o.row o.book o.cells)
 
   abbrev pub join_step : ControllerNumber → ControllerNumber → Done (Unit {0}) E
-  join_step i p = asks (pair_asks s i p) (refuse s i) (after_join i (joining i p s.site s.cells s.books (has_room s)))
+  join_step i p = asks (pair_asks s i p) (refuse s i) (after_join i (joined i (row s i) (book s i) s.cells p (row s p) (book s p) (has_room s)))
 
   -- by the slip's numbers
   abbrev pub settle_step : ControllerNumber → Stamp → Done Verdict E
-  settle_step i t = asks (site_asks s i) (refuse s i) (placed s (judging s.site.n i s.site s.books t) s)
+  settle_step i t = asks (site_asks s i) (refuse s i) (placed s (judged s.site.n i (row s i) (book s i) t) s)
 
   -- the slip is spent, unless it waits or the step is refused
   abbrev pub settle_slip : ControllerNumber → Slip → Result Settled (Fault × Slip)
