@@ -61,6 +61,11 @@ module _ {E : Type 0} where
   abbrev pub Guarantee : (E → Question → Option Answer) → Answer → State E → List (Step E) → Type 0
   Guarantee says unsettled made steps = Laws says unsettled (history says unsettled made steps)
 
+  -- of every cabinet's cells, of every memory and size that a make takes, and of every list of steps
+  abbrev pub EveryRun : (E → Question → Option Answer) → Answer → Type 0
+  EveryRun says unsettled = (s : State E) (n cap : ℕ) → length s.cells ≡ 7 → (make_step s n cap).result ≡ Ok tt
+      → (steps : List (Step E)) → Guarantee says unsettled (make_step s n cap).state steps
+
   -- whatever make and list of steps led to `here`: these steps lead on from there to `there`, and the laws hold of the whole list
   abbrev pub GoesOn : (E → Question → Option Answer) → Answer → State E → List (Step E) → State E → Type 0
   GoesOn says unsettled here steps there = (s : State E) (n cap : ℕ) → length s.cells ≡ 7 → (make_step s n cap).result ≡ Ok tt
