@@ -1,9 +1,9 @@
 use Rattle.std.proofs.Common.{◌≡◌, get_or, sym, subst, rules}
 use Rattle.std.proofs.lemmas.List.{get_or_past}
-use Rattle.desk.specs.Digits.{Reads}
-use Rattle.desk.proofs.Parsed.{read_plain, sign_first}
-use Rattle.desk.proofs.words.number_of.Goals as goal
-use Rattle.desk.proofs.words.number_of.Goals.{else-bytes-gt0-via-then-bytes-gt0+else-bytes-eq43, else-bytes-gt0-via-else-bytes-gt0}
+use Rattle.script_desk.specs.Digits.{Reads}
+use Rattle.script_desk.proofs.Parsed.{read_plain, sign_first}
+use Rattle.script_desk.proofs.words.number_of.Goals as goal
+use Rattle.script_desk.proofs.words.number_of.Goals.{else-bytes-gt0-via-then-bytes-gt0+else-bytes-eq43, else-bytes-gt0-via-else-bytes-gt0}
 
 pub returns-then-bytes-eq43 : goal.returns-then-bytes-eq43
 returns-then-bytes-eq43 c = sign_first c.args.word.now (search rules)

@@ -4,7 +4,7 @@ use mathlib.Core.Bool.{false≢true}
 use Rattle.std.specs.Result.{OkIff, result_ok}
 use Rattle.std.specs.Str.Parse.{ParsesUnsigned}
 use Rattle.std.proofs.lemmas.Str.Parse.{IsNumeralModel, numerals_by_fold, parse_plain}
-use Rattle.desk.specs.Digits.{plain, going_on, written, IsNumber, Reads}
+use Rattle.script_desk.specs.Digits.{plain, going_on, written, IsNumber, Reads}
 
 own : IsNumeralModel (λ ds. plain ds ≡ true) (going_on 0)
 own = numerals_by_fold _ (search rules) going_on (search rules)

@@ -1,5 +1,5 @@
 // A line as words, and the numbers that they say.
-ghost use Rattle.desk.specs.Digits.{Reads};
+ghost use Rattle.script_desk.specs.Digits.{Reads};
 
 use entries::Question;
 use numbers::{ControllerNumber, Place, Stamp, View, ViewCount};

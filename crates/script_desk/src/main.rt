@@ -1,0 +1,107 @@
+// The desk: runs a script of steps on a site, and reports what came of each.
+use cabinet::{Strip, Tray};
+use entries::{CardChange, HoursChange};
+use kinds::Written;
+use orders::{KindName, Setup, Store};
+use script::Script;
+use serving::{Desk, serve};
+use std::alloc::Global;
+use std::env;
+use std::fs::File;
+use std::io::{BufRead, BufReader, BufWriter, Write};
+use std::process::ExitCode;
+use troubles::Trouble;
+
+mod cabinets;
+mod fates;
+mod kinds;
+mod memory;
+mod orders;
+mod report;
+mod script;
+mod serving;
+mod showing;
+mod statement;
+mod troubles;
+mod views;
+mod words;
+
+// The line that makes the site: the first that says anything.
+fn first_line<R: BufRead>(script: &mut Script<R>) -> Result<Setup, Trouble> {
+    for _ in 0..u64::MAX {
+        let more = script.advance()?;
+        match orders::read_setup(script.text()) {
+            Ok(Some(setup)) => return Ok(setup),
+            Ok(None) if more => {}
+            _ => break,
+        }
+    }
+    Err(Trouble::Line {
+        number: script.number(),
+        expected: orders::SITE,
+    })
+}
+
+// Serves a script of one kind of change, with the cabinet that its first line names.
+fn open<E: Written, R: BufRead, O: Write>(
+    heap: Global,
+    setup: Setup,
+    script: &mut Script<R>,
+    out: &mut O,
+) -> Result<(), Trouble> {
+    let desk = Desk::<E>::new(heap, setup)?;
+    match setup.store {
+        Store::Tray { left } => {
+            let mut tray = Tray::new([left; 7]);
+            serve(desk, &mut tray, script, out)
+        }
+        Store::Strip { bytes } => {
+            let mut memory = vec![in heap; 0; bytes as usize]?;
+            let mut strip = Strip::new(memory.as_mut_slice());
+            serve(desk, &mut strip, script, out)
+        }
+    }
+}
+
+fn work<R: BufRead + Drop, O: Write>(heap: Global, source: R, out: &mut O) -> Result<(), Trouble> {
+    let mut script = Script::new(source, heap);
+    let setup = first_line(&mut script)?;
+    match setup.kind {
+        KindName::Cards => open::<CardChange, R, O>(heap, setup, &mut script, out),
+        KindName::Hours => open::<HoursChange, R, O>(heap, setup, &mut script, out),
+    }
+}
+
+// Takes the script from the file that the program is given, or else from standard input.
+fn begin(rt: &HostRuntime) -> Result<(), Trouble> {
+    let mut args = env::args(rt)?.skip(1);
+    let name = args.next();
+    if args.next().is_some() {
+        return Err(Trouble::Arguments);
+    }
+    let mut out = BufWriter::new(rt.alloc(), rt.stdout())?;
+    let done = match name {
+        Some(name) => work(
+            rt.alloc(),
+            BufReader::new(rt.alloc(), File::open(rt, name)?)?,
+            &mut out,
+        ),
+        None => work(
+            rt.alloc(),
+            BufReader::new(rt.alloc(), rt.stdin())?,
+            &mut out,
+        ),
+    };
+    out.flush()?;
+    done
+}
+
+fn main(rt: HostRuntime) -> ExitCode {
+    match begin(&rt) {
+        Ok(()) => ExitCode::SUCCESS,
+        Err(trouble) => {
+            let _ = rt.stderr().println(&trouble);
+            ExitCode::FAILURE
+        }
+    }
+}
