@@ -6,7 +6,7 @@ use Rattle.cabinet.specs.declared.cells.Cell.{Cell}
 use Rattle.controller.specs.declared.faults.Fault.{Fault}
 use Rattle.controller.specs.declared.records.Controller.{Controller}
 use Rattle.controller.specs.Books.{in_use}
-use Rattle.controller.specs.Joins.{Joined, followed, if_may, joined, may_join}
+use Rattle.controller.specs.Joins.{followed, if_may, joined, may_join}
 
 module _ {E : Type 0} (i : ControllerNumber) (r : Controller) (book : List (Entry E)) (cs : List Cell) (p : ControllerNumber) (led : Controller) (led_book : List (Entry E)) (room : Bool) where
   pub join_taken : may_join i r led ≡ Ok tt → (p' : ControllerNumber) (log : List (Entry E)) → p' ≡ p → log ≡ in_use led led_book → followed i r book cs p' led.views.current log room ≡ joined i r book cs p led led_book room

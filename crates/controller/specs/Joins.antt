@@ -1,5 +1,5 @@
 -- A waiting controller joins the view of an active primary. Assumes nothing.
-use Rattle.std.specs.Prelude.{ℕ, min, Bool, true, false, cond, List, [], ◌∷◌, ◌++◌, length, drop, Ok, Err, Result, nat_le}
+use Rattle.std.specs.Prelude.{ℕ, Bool, true, List, [], ◌∷◌, ◌++◌, length, drop, Ok, Err, Result, nat_le}
 use Rattle.numbers.specs.declared.views.ControllerNumber.{ControllerNumber}
 use Rattle.numbers.specs.declared.views.View.{View}
 use Rattle.numbers.specs.Views.{earlier, same_view}
@@ -11,7 +11,6 @@ use Rattle.controller.specs.declared.faults.Fault.{Fault}
 use Rattle.controller.specs.declared.records.Controller.{Controller}
 use Rattle.controller.specs.declared.records.Status.TheVariants.{Backup}
 use Rattle.controller.specs.Books.{cap_of, in_use}
-use Rattle.controller.specs.Deliveries.{Delivered}
 use Rattle.controller.specs.Questions.{Question, asks, message, q, refusal_at}
 use Rattle.controller.specs.Records.{is_active, is_primary, is_up, is_waiting}
 use Rattle.controller.specs.ViewChanges.{if_put, put_after, put_result}

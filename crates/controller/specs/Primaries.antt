@@ -1,5 +1,5 @@
 -- A change, an entry passed on, and a lookup. Assumes nothing.
-use Rattle.std.specs.Prelude.{ℕ, ◌+◌, Bool, List, [], ◌∷◌, is_some, Some, None, Ok, Err, Option, Result, nat_lt, slice_set}
+use Rattle.std.specs.Prelude.{◌+◌, Bool, List, [], ◌∷◌, is_some, Some, None, Ok, Err, Option, Result, nat_lt, slice_set}
 use Rattle.numbers.specs.declared.views.ControllerNumber.{ControllerNumber}
 use Rattle.numbers.specs.declared.views.Place.{Place}
 use Rattle.numbers.specs.declared.views.View.{View}

@@ -1,6 +1,5 @@
 -- A controller's record, and what can be read off it. Assumes nothing.
-use Rattle.std.specs.Prelude.{ℕ, Bool, true, false, cond, List, replicate, Some, None, Option, ◌==◌, slice_set}
-use Rattle.numbers.specs.declared.rows.Row.{Row}
+use Rattle.std.specs.Prelude.{Bool, true, false, cond, List, replicate, Some, None, Option, ◌==◌, slice_set}
 use Rattle.numbers.specs.declared.views.ControllerNumber.{ControllerNumber}
 use Rattle.numbers.specs.declared.views.View.{View}
 use Rattle.numbers.specs.Rows.{zero_row}

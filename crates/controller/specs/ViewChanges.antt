@@ -6,7 +6,6 @@ use Rattle.numbers.specs.declared.views.ControllerNumber.{ControllerNumber}
 use Rattle.numbers.specs.declared.views.View.{View}
 use Rattle.numbers.specs.Rows.{row_ok}
 use Rattle.numbers.specs.Views.{controller_of, count_of}
-use Rattle.entries.specs.declared.book.Body.{Body}
 use Rattle.entries.specs.declared.book.Body.TheVariants.{Invitation, Form}
 use Rattle.entries.specs.declared.book.Message.{Message}
 use Rattle.cabinet.specs.declared.cells.Cell.{Cell}

@@ -1,4 +1,6 @@
 // The desk: takes changes, questions and cell records a line at a time, and says what it did.
+#![tactic(auto)]
+
 ghost use Rattle.std.specs.Prelude.{◌≡◌, [], ◌∷◌, ◌++◌, is_ok, if◌then◌else◌};
 ghost use Rattle.numbers.specs.Views.{view_of};
 

@@ -1,4 +1,6 @@
 // Numbers and views: the lowest layer. Each kind of number has a type of its own.
+#![tactic(auto)]
+
 mod majorities;
 mod records;
 mod refusals;

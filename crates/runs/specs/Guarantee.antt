@@ -1,5 +1,5 @@
 -- The guarantee on confirmed changes, over the history of any list of steps. Assumes nothing.
-use Rattle.std.specs.Prelude.{◌≡◌, ℕ, ◌-◌, true, List, [], ◌∷◌, ◌++◌, length, take, Some, None, Ok, Option, ◌≢◌}
+use Rattle.std.specs.Prelude.{◌≡◌, ℕ, ◌-◌, true, List, [], ◌∷◌, ◌++◌, length, take, Some, Ok, Option, ◌≢◌}
 use Rattle.numbers.specs.declared.views.Stamp.{Stamp}
 use Rattle.numbers.specs.declared.views.View.{View}
 use Rattle.numbers.specs.Views.{earlier}
@@ -13,7 +13,7 @@ use Rattle.site.specs.Making.{make_step}
 use Rattle.site.specs.States.{State}
 use Rattle.runs.specs.declared.steps.Step.{Step}
 use Rattle.runs.specs.Runs.{ran}
-use Rattle.runs.specs.History.{Event, confirmed, handed, handed_with, history, looked_up, lost, opened}
+use Rattle.runs.specs.History.{Event, confirmed, handed_with, history, looked_up, lost, opened}
 
 module _ {E : Type 0} where
   -- the entry of a stamp and a change: its view with the change

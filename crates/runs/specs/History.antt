@@ -1,5 +1,5 @@
 -- The history of a list of steps: what is read off the steps that were taken. Assumes nothing.
-use Rattle.std.specs.Prelude.{ℕ, ◌-◌, Bool, cond, ◌&&◌, List, [], ◌∷◌, ◌++◌, take, Option, ◌==◌}
+use Rattle.std.specs.Prelude.{◌-◌, Bool, cond, ◌&&◌, List, [], ◌∷◌, ◌++◌, take, Option, ◌==◌}
 use Rattle.numbers.specs.declared.views.ControllerNumber.{ControllerNumber}
 use Rattle.numbers.specs.declared.views.Stamp.{Stamp}
 use Rattle.numbers.specs.declared.views.View.{View}

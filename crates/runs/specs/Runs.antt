@@ -1,22 +1,20 @@
 -- One step of a site, and a list of them. Assumes nothing.
-use Rattle.std.specs.Prelude.{ℕ, cond, List, [], ◌∷◌, Ok, Err, Option, Result}
+use Rattle.std.specs.Prelude.{cond, List, [], ◌∷◌, Ok, Err, Option, Result}
 use Rattle.numbers.specs.declared.views.ControllerNumber.{ControllerNumber}
 use Rattle.numbers.specs.declared.views.Stamp.{Stamp}
 use Rattle.numbers.specs.Views.{controller_of, stamp_ok}
-use Rattle.entries.specs.declared.book.Message.{Message}
 use Rattle.entries.specs.declared.kinds.Answer.{Answer}
 use Rattle.entries.specs.declared.kinds.Question.{Question}
 use Rattle.controller.specs.declared.slips.Settled.{Settled as Settlement}
 use Rattle.controller.specs.declared.slips.Settled.TheVariants.{Confirmed as IsConfirmed, Lost as IsLost, Waiting as StillWaiting}
-use Rattle.controller.specs.declared.slips.Slip.{Slip}
 use Rattle.controller.specs.declared.verdicts.Verdict.{Verdict}
 use Rattle.controller.specs.declared.verdicts.Verdict.TheVariants.{Confirmed, Lost, Waiting}
 use Rattle.controller.specs.Slips.{stamp_on}
 use Rattle.site.specs.declared.faults.Fault.{Fault}
-use Rattle.site.specs.States.{Done, State, fault_by}
+use Rattle.site.specs.States.{Done, State}
 use Rattle.site.specs.Steps.{call_step, change_step, crash_step, deliver_step, form_step, invite_step, join_step, lookup_step, lose_step, pass_step, recover_step, refuse, settle_step}
 use Rattle.runs.specs.declared.steps.Outcome.{Outcome}
-use Rattle.runs.specs.declared.steps.Outcome.TheVariants.{Pending, Refused, Changed, Settled, Answered, Formed, Delivered, Done as Taken}
+use Rattle.runs.specs.declared.steps.Outcome.TheVariants.{Refused, Changed, Settled, Answered, Formed, Delivered, Done as Taken}
 use Rattle.runs.specs.declared.steps.Step.{Step}
 use Rattle.runs.specs.declared.steps.Step.TheVariants.{Change, Pass, Call, Invite, Form, Deliver, Join, Settle, Lookup, Crash, Recover, Lose}
 use Rattle.runs.specs.declared.steps.Turn.{Turn}

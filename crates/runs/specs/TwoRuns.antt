@@ -1,5 +1,5 @@
 -- Two runs of card changes at three controllers, and their histories: what the guarantee speaks of occurs. Assumes nothing.
-use Rattle.std.specs.Prelude.{◌≡◌, ℕ, false, List, [], ◌∷◌, replicate}
+use Rattle.std.specs.Prelude.{◌≡◌, false, List, [], ◌∷◌, replicate}
 use Rattle.numbers.specs.Views.{controller_of, place_of, stamp_of, view_of}
 use Rattle.entries.specs.declared.book.Body.TheVariants.{Invitation}
 use Rattle.entries.specs.declared.book.Entry.{Entry}

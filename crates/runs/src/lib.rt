@@ -1,4 +1,6 @@
 // Runs: any list of steps of a site, and what is guaranteed of every one.
+#![tactic(auto)]
+
 mod guarantees;
 mod outcomes;
 mod playing;

@@ -1,4 +1,6 @@
 // The desk: runs a script of steps on a site, and reports what came of each.
+#![tactic(auto)]
+
 use cabinet::{Strip, Tray};
 use entries::{CardChange, HoursChange};
 use kinds::Written;

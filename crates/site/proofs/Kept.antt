@@ -1,9 +1,7 @@
 -- A controller's step that is refused leaves its record, book and cells as they were. Assumes nothing.
-use Rattle.std.proofs.Common.{◌≡◌, ℕ, Bool, true, false, cond, not, ltb, List, [], ◌∷◌, set, Some, None, Ok, Err, Option, Result, sym, refl, ap, ◌∙◌, subst, arith, rules}
-use Rattle.numbers.specs.declared.rows.Row.{Row}
+use Rattle.std.proofs.Common.{◌≡◌, ℕ, Bool, true, false, cond, ltb, List, [], ◌∷◌, Some, None, Ok, Err, Option, Result, refl, arith, rules}
 use Rattle.numbers.specs.declared.views.ControllerNumber.{ControllerNumber}
 use Rattle.numbers.specs.declared.views.Place.{Place}
-use Rattle.numbers.specs.Rows.{row_ok}
 use Rattle.numbers.specs.Views.{earlier, same_view}
 use Rattle.entries.specs.declared.book.Body.{Body}
 use Rattle.entries.specs.declared.book.Body.TheVariants.{Invitation, Answer, Form, Entry as Carries, Acknowledgement}
@@ -11,21 +9,18 @@ use Rattle.entries.specs.declared.book.Entry.{Entry}
 use Rattle.entries.specs.declared.book.Message.{Message}
 use Rattle.entries.specs.declared.book.Reply.{Reply}
 use Rattle.cabinet.specs.declared.cells.Cell.{Cell}
-use Rattle.cabinet.specs.Cells.{is_worn, put_cells}
 use Rattle.controller.specs.declared.faults.Fault.{Fault as Stopped}
 use Rattle.controller.specs.declared.records.Controller.{Controller}
 use Rattle.controller.specs.declared.records.Status.{Status}
 use Rattle.controller.specs.declared.records.Status.TheVariants.{Down, Waiting, Manager, Backup, Primary}
-use Rattle.controller.specs.Books.{cap_of, in_use}
+use Rattle.controller.specs.Books.{cap_of}
 use Rattle.controller.specs.Messages.{message_ok}
 use Rattle.controller.specs.Deliveries.{Delivered, by_status, delivered, promised_row, opened_row, taken, took_acknowledgement, took_answer, took_entry, took_form, took_invitation}
-use Rattle.controller.specs.Joins.{Joined, followed, if_may, joined, joined_row, may_join}
-use Rattle.controller.specs.declared.slips.Slip.{Slip}
 use Rattle.controller.specs.Power.{crashed, recovered}
 use Rattle.controller.specs.Primaries.{changed, passed}
 use Rattle.controller.specs.Questions.{Kept, Put, Question, Written, asks, message, q, refusal_at}
 use Rattle.controller.specs.Records.{is_up, reply_of}
-use Rattle.controller.specs.ViewChanges.{called, called_row, form_choice, formed, if_put, put_after, put_result, put_taken}
+use Rattle.controller.specs.ViewChanges.{called, called_row, formed, put_taken}
 
 -- what holds of every refusal and of the step taken holds of the step
 pub asks_all : {A : Type 0} (P : A → Type 0) (qs : List Question) (refused : ℕ → A) (done : A) → ((k : ℕ) → P (refused k)) → P done → P (asks qs refused done)

@@ -1,5 +1,5 @@
 -- What a made site says of its memory. Assumes nothing.
-use Rattle.std.proofs.Common.{◌≡◌, ℕ, ◌*◌, ◌≤◌, Bool, true, false, ◌&&◌, eqb, leb, rules, eqb-true, leb-true}
+use Rattle.std.proofs.Common.{◌≡◌, ℕ, ◌*◌, ◌≤◌, Bool, true, false, ◌&&◌, eqb, leb, eqb-true, leb-true}
 use Rattle.site.specs.declared.records.Site.{Site}
 use Rattle.site.specs.States.{made_with}
 

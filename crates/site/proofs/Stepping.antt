@@ -1,5 +1,5 @@
 -- From the site's questions to the controller's step, and from what that left to the site's state. Assumes nothing.
-use Rattle.std.proofs.Common.{◌≡◌, ℕ, ◌*◌, Bool, true, false, cond, not, eqb, ltb, ◌⊎◌, List, [], ◌∷◌, length, get_or, set, Some, None, Ok, Err, Option, Result, sym, refl, ap, ◌∙◌, inl, inr}
+use Rattle.std.proofs.Common.{◌≡◌, ℕ, true, cond, not, eqb, ltb, List, length, get_or, set, Some, Ok, Err, Result, sym, ap, ◌∙◌, inl, inr}
 use Rattle.numbers.specs.declared.views.ControllerNumber.{ControllerNumber}
 use Rattle.entries.specs.declared.book.Entry.{Entry}
 use Rattle.entries.specs.declared.book.Message.{Message}
@@ -18,9 +18,9 @@ use Rattle.controller.specs.Verdicts.{settled_by, with_slip}
 use Rattle.site.specs.declared.faults.Fault.{Fault}
 use Rattle.site.specs.declared.records.Site.{Site}
 use Rattle.site.specs.Faults.{named_by, site_fault}
-use Rattle.site.specs.States.{Done, MemberFails, PairFails, State, book, done, has_room, is_made, put_all, row, state, with_part, with_row}
-use Rattle.site.specs.Steps.{after_delivery, answering, deliver_message, deliver_step, delivery, pair_asks, placed, refuse, refuse_about, sending, site_asks, slip_after}
-use Rattle.site.proofs.Lent.{part_same, set_back}
+use Rattle.site.specs.States.{Done, MemberFails, PairFails, State, done, has_room, is_made, put_all, state, with_row}
+use Rattle.site.specs.Steps.{after_delivery, answering, deliver_message, deliver_step, delivery, pair_asks, placed, refuse, refuse_about, site_asks, slip_after}
+use Rattle.site.proofs.Lent.{set_back}
 
 module _ {A E : Type 0} (s : State E) (i : ControllerNumber) (t : Done A E) where
   -- both questions are answered yes

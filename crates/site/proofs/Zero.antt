@@ -1,5 +1,5 @@
 -- The cells below k hold twice the view (0, 0) if those below k - 1 do and cell k - 1 does. Assumes nothing.
-use Rattle.std.proofs.Common.{◌≡◌, ℕ, zero, suc, ◌-◌, ◌<◌, ◌≤◌, Bool, true, false, ◌&&◌, List, sym, refl, ap, ◌∙◌, arith}
+use Rattle.std.proofs.Common.{◌≡◌, ℕ, zero, suc, ◌-◌, ◌<◌, Bool, true, false, ◌&&◌, List, sym, refl, ap, ◌∙◌, arith}
 use Rattle.numbers.specs.declared.rows.Row.{Row}
 use Rattle.numbers.specs.Rows.{zero_row}
 use Rattle.cabinet.specs.declared.cells.Cell.{Cell}

@@ -1,10 +1,9 @@
 -- What a fault of the site says, from the controller's fault. Assumes nothing.
-use Rattle.std.specs.Prelude.{ℕ, Ok, Err, Result}
+use Rattle.std.specs.Prelude.{ℕ}
 use Rattle.numbers.specs.Refusals.{refusal}
 use Rattle.controller.specs.declared.faults.Fault.{Fault as Stopped}
 use Rattle.controller.specs.declared.faults.Fault.TheVariants.{Worn, Refused}
 use Rattle.site.specs.declared.faults.Fault.{Fault}
-use Rattle.site.specs.declared.faults.Named.{Named}
 use Rattle.site.specs.declared.faults.Named.TheVariants.{Cell, Message, Controller}
 
 -- a worn cell is 15, and names cell and controller; else the acting controller is named

@@ -1,4 +1,6 @@
 // The site: seven controller records, and the twelve steps over the caller's books and pool and any cabinet.
+#![tactic(auto)]
+
 mod asking;
 mod deliveries;
 mod faults;

@@ -1,4 +1,6 @@
 // Tests of the layers, with expected values worked out by hand from the rules.
+#![tactic(auto)]
+
 #[cfg(test)]
 mod examples;
 #[cfg(test)]

@@ -1,4 +1,4 @@
-use Rattle.std.proofs.Common.{◌≡◌, sym, ap, ◌∙◌, inl, inr}
+use Rattle.std.proofs.Common.{sym, ap, ◌∙◌, inl, inr}
 use Rattle.controller.specs.Books.{at_place}
 use Rattle.controller.proofs.Places.{place_within, place_zero, place_past}
 use Rattle.controller.proofs.books.entry_at.Goals as goal

@@ -1,6 +1,5 @@
-use Rattle.std.proofs.Common.{◌≡◌, Ok, Err, sym, ap, ◌∙◌}
+use Rattle.std.proofs.Common.{Err, sym, ap, ◌∙◌}
 use Rattle.std.proofs.lemmas.Result.{err_from_is_err_and}
-use Rattle.controller.specs.Joins.{Joined}
 use Rattle.controller.proofs.Joining.{join_refused, join_taken}
 use Rattle.controller.proofs.joins.join.Goals as goal
 

@@ -1,4 +1,4 @@
-use Rattle.std.proofs.Common.{◌≡◌, Ok, ap, ◌∙◌}
+use Rattle.std.proofs.Common.{Ok, ap, ◌∙◌}
 use Rattle.controller.specs.Verdicts.{judged, settled_by}
 use Rattle.controller.proofs.verdicts.settle.Goals as goal
 

@@ -1,4 +1,4 @@
-use Rattle.std.proofs.Common.{◌≡◌, sym, ◌∙◌}
+use Rattle.std.proofs.Common.{sym, ◌∙◌}
 use Rattle.forming.proofs.Counted.{every_yes, every_no, every_end}
 use Rattle.forming.proofs.counting.every.Goals as goal
 

@@ -1,4 +1,4 @@
-use Rattle.std.proofs.Common.{◌≡◌, sym, ◌∙◌}
+use Rattle.std.proofs.Common.{sym, ◌∙◌}
 use Rattle.forming.proofs.Counted.{first_yes, first_no, first_end}
 use Rattle.forming.proofs.counting.first.Goals as goal
 

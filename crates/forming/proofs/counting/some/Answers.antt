@@ -1,4 +1,4 @@
-use Rattle.std.proofs.Common.{◌≡◌, sym, ◌∙◌}
+use Rattle.std.proofs.Common.{sym, ◌∙◌}
 use Rattle.forming.proofs.Counted.{some_yes, some_no, some_end}
 use Rattle.forming.proofs.counting.some.Goals as goal
 

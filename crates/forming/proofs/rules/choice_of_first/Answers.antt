@@ -1,5 +1,4 @@
-use Rattle.std.proofs.Common.{◌≡◌, ◌-◌, ◌<◌, ◌≤◌, length, take, Some, None, Option, ap, ◌∙◌, arith, length-take, MatchOption}
-use Rattle.forming.specs.Rules.{choice}
+use Rattle.std.proofs.Common.{◌∙◌}
 use Rattle.forming.proofs.Choosing.{fewer, same_front}
 use Rattle.forming.proofs.rules.choice_of_first.Goals as goal
 

@@ -1,5 +1,4 @@
 use Rattle.std.proofs.Common.{arith}
-use Rattle.site.specs.States.{state}
 use Rattle.runs.specs.Runs.{steps_of}
 use Rattle.runs.proofs.Guaranteed.{goes_on}
 use Rattle.runs.proofs.Leading.{leads_end, leads_on, leads_start}

@@ -1,4 +1,4 @@
-use Rattle.std.proofs.Common.{◌≡◌, Ok, Err, sym, ap, ◌∙◌}
+use Rattle.std.proofs.Common.{Ok, Err, sym, ap, ◌∙◌}
 use Rattle.numbers.specs.Refusals.{refusal}
 use Rattle.numbers.specs.Views.{controller_of, stamp_ok}
 use Rattle.site.specs.declared.faults.Named.TheVariants.{Controller}

@@ -1,4 +1,4 @@
-use Rattle.std.proofs.Common.{◌≡◌, sym, ◌∙◌, arith, rules}
+use Rattle.std.proofs.Common.{sym, ◌∙◌, arith, rules}
 use Rattle.site.proofs.Zero.{zero_again, zero_not}
 use Rattle.site.proofs.making.cells_are_zero.Goals as goal
 

@@ -1,5 +1,4 @@
 use Rattle.std.proofs.Common.{◌≡◌}
-use Rattle.numbers.specs.Rows.{zero_row}
 use Rattle.site.specs.Making.{cells_zero}
 use Rattle.site.proofs.making.cells_are_zero.Given as goal
 

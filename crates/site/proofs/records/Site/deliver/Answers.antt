@@ -1,5 +1,4 @@
-use Rattle.std.proofs.Common.{◌≡◌, ◌<◌, Bool, true, ltb, length, Some, Ok, Err, sym, ap, ◌∙◌, arith, rules, ltb-true, lt-ltb}
-use Rattle.numbers.specs.declared.views.ControllerNumber.{ControllerNumber}
+use Rattle.std.proofs.Common.{◌≡◌, ◌<◌, length, Some, Ok, Err, sym, ap, ◌∙◌, arith, rules, ltb-true, lt-ltb}
 use Rattle.site.specs.States.{has_room, part, row_of, state, with_part}
 use Rattle.site.specs.Steps.{delivery}
 use Rattle.site.proofs.Kept.{delivered_kept, delivered_room}

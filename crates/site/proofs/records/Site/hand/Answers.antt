@@ -1,7 +1,7 @@
-use Rattle.std.proofs.Common.{◌≡◌, ◌+◌, ◌-◌, ◌*◌, get_or, take, drop, sym, ap, ◌∙◌}
-use Rattle.controller.specs.Deliveries.{Delivered, delivered}
+use Rattle.std.proofs.Common.{◌≡◌, ◌+◌, ◌-◌, ◌*◌, get_or, take, drop, ap, ◌∙◌}
+use Rattle.controller.specs.Deliveries.{delivered}
 use Rattle.controller.specs.Records.{down_record}
-use Rattle.site.specs.States.{part, row_of}
+use Rattle.site.specs.States.{row_of}
 use Rattle.site.specs.Steps.{delivery}
 use Rattle.site.proofs.Lent.{part_back, part_lent}
 use Rattle.site.proofs.Stepping.{rows_placed}

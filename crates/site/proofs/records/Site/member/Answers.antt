@@ -1,4 +1,4 @@
-use Rattle.std.proofs.Common.{◌≡◌, ◌*◌, true, length, sym, ◌∙◌, rules}
+use Rattle.std.proofs.Common.{◌≡◌, true, length, rules}
 use Rattle.site.specs.States.{made_with}
 use Rattle.site.proofs.Made.{made_books, made_pool}
 use Rattle.site.proofs.records.Site.member.Goals as goal

@@ -1,4 +1,4 @@
-use Rattle.std.proofs.Common.{◌≡◌, ◌<◌, length, sym, ◌∙◌, arith, ltb-true}
+use Rattle.std.proofs.Common.{◌<◌, length, sym, ◌∙◌, arith, ltb-true}
 use Rattle.site.specs.States.{part, row_of}
 use Rattle.site.proofs.Kept.{passed_room}
 use Rattle.site.proofs.records.Site.pass.Goals as goal

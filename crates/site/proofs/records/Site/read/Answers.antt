@@ -1,4 +1,4 @@
-use Rattle.std.proofs.Common.{◌≡◌, ◌+◌, ◌-◌, ◌*◌, get_or, take, drop, ap, ◌∙◌}
+use Rattle.std.proofs.Common.{◌+◌, ◌-◌, get_or, take, drop, ap, ◌∙◌}
 use Rattle.controller.specs.Primaries.{passed}
 use Rattle.controller.specs.Records.{down_record}
 use Rattle.site.specs.States.{row_of}

@@ -1,4 +1,4 @@
-use Rattle.std.proofs.Common.{◌≡◌, get_or, sym, rules}
+use Rattle.std.proofs.Common.{get_or, sym, rules}
 use Rattle.controller.specs.Records.{down_record}
 use Rattle.site.proofs.Kept.{recovered_kept}
 use Rattle.site.proofs.Lent.{set_back}
