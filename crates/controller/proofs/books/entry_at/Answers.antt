@@ -1,4 +1,4 @@
-use Rattle.std.proofs.Common.{sym, ap, ◌∙◌, inl, inr}
+use Rattle.std.proofs.Common.{sym, ap, ◌∙◌, inl, inr, rules}
 use Rattle.controller.specs.Books.{at_place}
 use Rattle.controller.proofs.Places.{place_within, place_zero, place_past}
 use Rattle.controller.proofs.books.entry_at.Goals as goal
@@ -14,4 +14,4 @@ returns-then-k-lt1 g c =
 pub returns : goal.returns
 returns g c =
     let same = ap (λ es. at_place es c.args.place.number) c.used-entries.ensures in
-    sym (place_within c.used-entries.result.now c.args.place.number c.index-entries-k.result c.if-k-lt1.false c.if-k-entries.false c.index-entries-k.is) ∙ same
+    sym (place_within c.used-entries.result.now c.args.place.number _ c.if-k-lt1.false c.if-k-entries.false (search rules)) ∙ same
