@@ -9,8 +9,8 @@ ghost use Rattle.forming.specs.Rules.{choice as choice_of};
 
 use crate::values::{row, view};
 use cabinet::*;
+use controller::choice;
 use entries::Reply;
-use forming::choice;
 use numbers::*;
 use std::test::Fail;
 

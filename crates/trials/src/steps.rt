@@ -2,10 +2,10 @@
 use crate::values::{row, view};
 use cabinet::*;
 use controller::{
-    Controller, Fault, Settled, Slip, Status, Verdict, change, crash, deliver, recover, settle,
+    Controller, Fault, Member, Settled, Slip, Status, Verdict, change, crash, deliver, recover,
+    settle,
 };
 use entries::{Body, Entry, Message, Reply};
-use forming::Member;
 use numbers::*;
 use std::test::Fail;
 
