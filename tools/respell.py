@@ -86,7 +86,7 @@ for new, olds in sorted(bad.items()):
     print(f"fall together as {new[1]} in {new[0]}: {', '.join(sorted(olds))}")
 if clash:
     print(f"the library has: {', '.join(sorted(clash))}")
-if (bad or clash) and "--force" not in sys.argv:
+if bad or clash:
     sys.exit(1)
 
 # 3. They are turned wherever they are named.
