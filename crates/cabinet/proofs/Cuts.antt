@@ -1,8 +1,8 @@
 -- The seven parts of a strip, and what becomes of them where a slot of one is written. Assumes nothing.
 use Rattle.std.proofs.Common.{◌≡◌, ℕ, ◌+◌, ◌*◌, ◌/◌, ◌%◌, ◌<◌, ◌≤◌, ◌≢◌, List, map, length, get_or, take, drop, set, sym, ap, ◌∙◌, subst, ⊎_elim, mul-le-mul_right, arith}
 use Rattle.std.specs.List.{range_with_len}
-use Rattle.std.proofs.lemmas.List.FromFn.{length-map-range_with_len, get_or-map-range_with_len}
-use Rattle.std.proofs.lemmas.List.{ext_get_or, get_or-set_same, get_or-set_other, length-drop, length-set, length-take}
+use Rattle.std.proofs.lemmas.List.FromFn.{length-map-range_with_len, get_or-map-range_with_len, fill_by_all}
+use Rattle.std.proofs.lemmas.List.{get_or-set_same, get_or-set_other, length-drop, length-set, length-take}
 use Rattle.std.proofs.lemmas.Bool.{cases_eq, cases_lt}
 use Rattle.cabinet.specs.declared.cells.Cell.{Cell}
 use Rattle.cabinet.specs.Slots.{slots_in, filled, part_cell, PartForm, part_size, part, StripForm, next_slot}
@@ -36,14 +36,12 @@ module _ (bs p : List ℕ) (c : ℕ) (mine : p ≡ part bs c) (lt : c < 7) where
 -- a list by its places, of which one has changed
 counted_set : {X : Type 0} (f g : ℕ → X) (n c : ℕ) (x : X) → c < n → g c ≡ x → ((i : ℕ) → i < n → i ≢ c → g i ≡ f i) → map g (range_with_len 0 n) ≡ set (map f (range_with_len 0 n)) c x
 counted_set f g n c x lt here else =
-    ext_get_or x (map g (range_with_len 0 n)) (set (map f (range_with_len 0 n)) c x) (length-map-range_with_len g 0 n ∙ sym (length-map-range_with_len f 0 n) ∙ sym (length-set (map f (range_with_len 0 n)) c x))
-    (λ i h.
-    let within : i < n = omega (arith, length-map-range_with_len g 0 n) in
-    get_or-map-range_with_len g 0 n i i x within (omega arith)
-    ∙ ⊎_elim
-    (λ e. ap g e ∙ here ∙ sym (get_or-set_same (map f (range_with_len 0 n)) c x x (omega (arith, length-map-range_with_len f 0 n))) ∙ ap (λ j. get_or (set (map f (range_with_len 0 n)) c x) j x) (sym e))
-    (λ ne. else i within ne ∙ sym (get_or-map-range_with_len f 0 n i i x within (omega arith)) ∙ sym (get_or-set_other (map f (range_with_len 0 n)) c i x x ne))
-    (cases_eq i c))
+    let long : length (map f (range_with_len 0 n)) ≡ n = length-map-range_with_len f 0 n in
+    sym (fill_by_all g (set (map f (range_with_len 0 n)) c x) n x (length-set (map f (range_with_len 0 n)) c x ∙ long)
+    (λ i h. ⊎_elim
+    (λ e. ap (λ j. get_or (set (map f (range_with_len 0 n)) c x) j x) e ∙ get_or-set_same (map f (range_with_len 0 n)) c x x (omega arith) ∙ sym (ap g e ∙ here))
+    (λ ne. get_or-set_other (map f (range_with_len 0 n)) c i x x ne ∙ get_or-map-range_with_len f 0 n i i x h (omega arith) ∙ sym (else i h ne))
+    (cases_eq i c)))
 
 -- slot n of part c written
 module _ (bs : List ℕ) (c n : ℕ) (s : List ℕ) (lt : c < 7) (room : n < slots_in (part bs c)) (long : length s ≡ 8) where

@@ -4,7 +4,6 @@ use Rattle.std.proofs.lemmas.List.{get_or-drop, get_or-take}
 use Rattle.std.proofs.lemmas.Bool.{cases_eq, cases_lt, cond-false, ne_eqb}
 use Rattle.numbers.specs.declared.rows.Row.{Row}
 use Rattle.numbers.specs.Rows.{row_ok, zero_row}
-use Rattle.cabinet.specs.declared.cells.Cell.{Cell}
 use Rattle.cabinet.specs.Slots.{slot_bytes, slot_ok, row_in, with_slot, slots_in, slot_at, is_filled, filled, part_cell, PartForm}
 use Rattle.cabinet.proofs.Blocks.{over, over_length, block_here, block_before, block_after}
 use Rattle.cabinet.proofs.OneToOne.{row_back, slot_of_ok}
@@ -16,9 +15,6 @@ first_byte p k =
     let whole : get_or (take 8 (drop (8 * k) p)) 0 0 ≡ get_or p (8 * k + 0) 0 = get_or-take 8 (drop (8 * k) p) 0 0 (omega arith) ∙ get_or-drop (8 * k) p 0 0 in
     let here : 8 * k + 0 ≡ 8 * k = omega arith in
     sym (ap (λ b. not (eqb b 0)) (whole ∙ ap (λ i. get_or p i 0) here))
-
-cell_from : (c : Cell) (w : Row) (n : ℕ) → c.row ≡ w → c.left ≡ n → c ≡ record { row = w; left = n }
-cell_from c w n a b = ap (λ (v : Row). record { row = v; left = c.left }) a ∙ ap (λ m. record { row = w; left = m }) b
 
 -- slot n written
 module _ (p : List ℕ) (n : ℕ) (s : List ℕ) (room : n < slots_in p) (long : length s ≡ 8) where
@@ -60,13 +56,12 @@ module _ (p s : List ℕ) (form : PartForm p) (room : filled p < slots_in p) (lo
 
   pub free_form : PartForm still
   free_form k lt =
-      ⊎_elim
-      (λ e. ((λ h. let no : ⊥ = omega (arith, free_filled) in search rules), (λ h. ap (is_filled still) e ∙ free_here)))
-      (λ ne. (
-        (λ h. ap slot_ok (slot_other p (filled p) s room long k ne) ∙ (form k (omega (arith, free_slots))).0 (omega (arith, free_filled))),
-        (λ h. filled_other p (filled p) s room long k ne ∙ (form k (omega (arith, free_slots))).1 (omega (arith, free_filled))),
-      ))
-      (cases_eq k (filled p))
+      let was = form k (omega (arith, free_slots)) in
+      let same = slot_other p (filled p) s room long k in
+      let other = filled_other p (filled p) s room long k in
+      let here = free_here in
+      let count = free_filled in
+      grind arith
 
 -- the first empty slot filled
 module _ (p : List ℕ) (w : Row) (form : PartForm p) (room : filled p < slots_in p) where
@@ -102,4 +97,4 @@ module _ (p : List ℕ) (w : Row) (form : PartForm p) (room : filled p < slots_i
   fill_left = omega (arith, fill_filled, fill_slots)
 
   pub fill_cell : part_cell after ≡ record { row = w; left = (part_cell p).left - 1 }
-  fill_cell = cell_from (part_cell after) w ((part_cell p).left - 1) fill_row fill_left
+  fill_cell = λ i. record { row = fill_row i; left = fill_left i }

@@ -1,16 +1,11 @@
 -- The bytes of a strip: slots of eight bytes, in seven equal parts. Assumes nothing.
-use Rattle.std.specs.Prelude.{◌≡◌, ℕ, zero, suc, ◌+◌, ◌-◌, ◌*◌, ◌/◌, ◌%◌, ◌<◌, ◌≤◌, Bool, true, false, cond, not, ◌&&◌, List, [], ◌∷◌, ◌++◌, map, length, take, drop, replicate, ◌==◌, slice_index}
-use Rattle.std.specs.List.{range_with_len}
+use Rattle.std.specs.Prelude.{◌≡◌, ℕ, ◌+◌, ◌-◌, ◌*◌, ◌/◌, ◌%◌, ◌<◌, ◌≤◌, Bool, true, false, cond, not, ◌&&◌, List, [], ◌∷◌, ◌++◌, map, length, take, drop, replicate, ◌==◌, slice_index}
+use Rattle.std.specs.List.{prefix_len, range_with_len}
 use Rattle.numbers.specs.declared.rows.Row.{Row}
 use Rattle.numbers.specs.Rows.{row_ok, zero_row}
 use Rattle.numbers.specs.Views.{view_of}
 use Rattle.cabinet.specs.declared.cells.Cell.{Cell}
 use Rattle.cabinet.specs.Cells.{fresh, is_worn}
-
--- a flag that says whether P holds
-abbrev pub Tells : Bool → Type 0 → Type 0
-Tells true P = P
-Tells false P = P → ⊥
 
 -- a filled slot: 1, the current view, the promised view, 0; a view is its count, highest byte first, and its controller
 abbrev pub slot_bytes : Row → List ℕ
@@ -49,24 +44,13 @@ slot_at p k = take 8 (drop (8 * k) p)
 abbrev pub is_filled : List ℕ → ℕ → Bool
 is_filled p k = not (slice_index p (8 * k) == 0)
 
--- how many of n slots from slot k on are filled before the first empty one
-abbrev pub filled_from : List ℕ → ℕ → ℕ → ℕ
-filled_from p k zero = 0
-filled_from p k (suc n) = cond (is_filled p k) (suc (filled_from p (k + 1) n)) 0
-
+-- how many slots are filled before the first empty one
 abbrev pub filled : List ℕ → ℕ
-filled p = filled_from p 0 (slots_in p)
+filled p = prefix_len (is_filled p) (range_with_len 0 (slots_in p))
 
 -- the record is that of the last filled slot, or twice (0, 0); the writes left are the empty slots
 abbrev pub part_cell : List ℕ → Cell
 part_cell p = record { row = cond (filled p == 0) zero_row (row_in (slot_at p (filled p - 1))); left = slots_in p - filled p }
-
--- slots before slot n are in form, and slots from slot n on are empty
-abbrev pub FirstInForm : List ℕ → ℕ → Type 0
-FirstInForm p n = (k : ℕ) → k < n → slot_ok (slot_at p k) ≡ true
-
-abbrev pub RestEmpty : List ℕ → ℕ → Type 0
-RestEmpty p n = (k : ℕ) → k < slots_in p → n ≤ k → is_filled p k ≡ false
 
 -- filled slots come first, each in form; after the first empty one all are empty
 abbrev pub PartForm : List ℕ → Type 0
@@ -99,10 +83,6 @@ next_slot bs c = c * part_size bs + 8 * filled (part bs c)
 -- the bytes after a put of w into cell c: without writes left the same; else the first empty slot of its part is that of w, and every other byte stays
 abbrev pub put_bytes : Bool → List ℕ → ℕ → Row → List ℕ
 put_bytes flag bs c w = cond (is_worn (strip_cells flag bs) c) bs (with_slot bs (next_slot bs c) w)
-
--- whether the bytes are in form, as a flag that says so
-abbrev pub TellsForm : Bool → List ℕ → Type 0
-TellsForm flag bs = Tells flag (StripForm bs)
 
 -- filled slots and records match one to one: rows in form have different slots, and a slot is in form exactly if it is that of a row in form, the one that it is read as
 pub record OneToOne : Type 0 where

@@ -2,14 +2,14 @@
 use numbers::Row;
 
 // A cell: its record as a plain row, and the writes left.
-#[derive(Clone, Copy)]
+#[derive(Clone, Copy, PartialEq, Eq, Debug)]
 pub struct Cell {
     pub row: Row,
     pub left: u16,
 }
 
 // The cell has no writes left.
-#[derive(Clone, Copy)]
+#[derive(Clone, Copy, PartialEq, Eq, Debug)]
 pub struct Worn {
     pub cell: u16,
 }

@@ -1,8 +1,8 @@
 // One part of a strip, the slots of one cell: the search for its first empty slot, its form, and
 // what it holds.
-ghost use Rattle.std.specs.Prelude.{◌≡◌, ◌≤◌};
+ghost use Rattle.std.specs.Prelude.{◌≡◌, ◌≤◌, Decides};
 ghost use Rattle.numbers.specs.Records.{row_of};
-ghost use Rattle.cabinet.specs.Slots.{Tells, slots_in, filled, part_cell, FirstInForm, RestEmpty, PartForm};
+ghost use Rattle.cabinet.specs.Slots.{slots_in, filled, part_cell, PartForm};
 
 use crate::slots::read_slot;
 use numbers::CellRecord;
@@ -12,46 +12,19 @@ pub fn filled_slots(part: &[u8]) -> usize
     ensures value { result ≡ filled part.now }
     ensures bound { result ≤ slots_in part.now }
 {
-    let slots = part.len() / 8;
-    for k in 0..slots {
-        if part[8 * k] == 0 {
-            return k;
-        }
-    }
-    slots
-}
-
-// Whether the first n slots are in form.
-fn first_are_in_form(part: &[u8], n: usize) -> bool
-    requires { n ≤ slots_in part.now }
-    ensures { Tells result (FirstInForm part.now n) }
-{
-    for k in 0..n {
-        if read_slot(&part[8 * k..8 * k + 8]).is_err() {
-            return false;
-        }
-    }
-    true
-}
-
-// Whether the slots from slot n on are empty.
-fn rest_is_empty(part: &[u8], n: usize) -> bool
-    ensures { Tells result (RestEmpty part.now n) }
-{
-    for k in n..part.len() / 8 {
-        if part[8 * k] != 0 {
-            return false;
-        }
-    }
-    true
+    part.chunks_exact(8).take_while(|slot| slot[0] != 0).count()
 }
 
 // Whether the filled slots come first, each in form, and all the rest are empty.
 pub fn is_in_form(part: &[u8]) -> bool
-    ensures { Tells result (PartForm part.now) }
+    ensures { Decides result (PartForm part.now) }
 {
     let n = filled_slots(part);
-    first_are_in_form(part, n) && rest_is_empty(part, n)
+    part.chunks_exact(8).enumerate().all(|(k, slot)| if k < n {
+        read_slot(slot).is_ok()
+    } else {
+        slot[0] == 0
+    })
 }
 
 // The record of the last filled slot, or twice the view (0, 0).

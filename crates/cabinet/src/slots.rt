@@ -22,12 +22,12 @@ pub fn slot_of(new: CellRecord) -> [u8; 8]
 pub fn read_slot(slot: &[u8]) -> Result<CellRecord, Refusal>
     ensures { MatchResult result (λ x. (length slot.now ≡ 8) × (slot_ok slot.now ≡ true) × (row_of x ≡ row_in slot.now)) (λ e. (length slot.now ≡ 8 → slot_ok slot.now ≡ false) × (e ≡ refusal 17)) }
 {
-    if slot.len() != 8 || slot[0] != 1 || slot[7] != 0 {
+    let &[1, a, b, c, d, e, f, 0] = slot else {
         return Err(Refusal::BadForm);
-    }
-    let current = view_in(slot[1], slot[2], slot[3]);
-    let promised = view_in(slot[4], slot[5], slot[6]);
-    CellRecord::new(Row { current, promised })
+    };
+    let current = view_in(a, b, c);
+    let promised = view_in(d, e, f);
+    CellRecord::try_from(Row { current, promised })
 }
 
 // The count of a view in two bytes, highest first, and its controller.
@@ -35,12 +35,8 @@ fn view_bytes(view: View) -> [u8; 3]
     requires { view_ok view ≡ true }
     ensures { result ≡ view.count.number / 256 ∷ view.count.number % 256 ∷ view.controller.number ∷ [] }
 {
-    let count = view.count.number;
-    [
-        (count / 256) as u8,
-        (count % 256) as u8,
-        view.controller.number as u8,
-    ]
+    let [high, low] = view.count.number.to_be_bytes();
+    [high, low, view.controller.number as u8]
 }
 
 // The view of a count in two bytes, highest first, and a controller.
@@ -49,7 +45,7 @@ fn view_in(high: u8, low: u8, controller: u8) -> View
 {
     View {
         count: ViewCount {
-            number: u16::from(high) * 256 + u16::from(low),
+            number: u16::from_be_bytes([high, low]),
         },
         controller: ControllerNumber {
             number: u16::from(controller),

@@ -1,12 +1,141 @@
 // A strip: records in bytes that the caller lends, seven parts of slots that are filled in order.
-ghost use Rattle.cabinet.specs.Slots.{TellsForm};
+ghost use Rattle.std.specs.Prelude.{◌≡◌, ℕ, ◌+◌, ◌<◌, ◌≤◌, true, if◌then◌else◌, length, Some, None, Ok, Err, IfSome, Decides, MatchOption, MatchResult};
+ghost use Rattle.numbers.specs.Records.{row_of};
+ghost use Rattle.numbers.specs.Refusals.{refusal};
+ghost use Rattle.cabinet.specs.Cells.{fresh, cell_at, is_worn, put_cells};
+ghost use Rattle.cabinet.specs.Slots.{slots_in, filled, part, part_cell, PartForm, StripForm, next_slot, put_bytes};
 
-pub mod calls;
+use crate::cells::Worn;
+use crate::meaning::Cabinet;
+use crate::parts::{filled_slots, is_in_form, last_record};
+use crate::slots::slot_of;
+use numbers::{CellRecord, Refusal};
 
 #[derive(Drop)]
 pub struct Strip<'a> {
     bytes: &'a mut [u8],
-    // whether the bytes are in form
+    // whether the bytes are in form; a flag beside them, since they stay lent where they are not
     sound: bool,
-    ghost tells: { ∥ TellsForm sound bytes.now ∥₁ },
+    ghost tells: { Decides sound (StripForm bytes.now) },
+}
+
+impl<'a> Strip<'a> {
+    ghost use Rattle.cabinet.specs.Strips.{bytes_in, cells_in};
+
+    // Whether the bytes are in form; refused with BadForm where they are not.
+    pub fn check(bytes: &[u8]) -> Result<(), Refusal>
+        ensures { MatchResult result (λ _. StripForm bytes.now) (λ e. (StripForm bytes.now → ⊥) × (e ≡ refusal 17)) }
+    {
+        if bytes_are_in_form(bytes) {
+            Ok(())
+        } else {
+            Err(Refusal::BadForm)
+        }
+    }
+
+    // The strip of these bytes, unchanged; where they are not in form, all its cells are worn.
+    pub fn new(bytes: &'a mut [u8]) -> Strip<'a>
+        ensures kept { bytes_in result ≡ bytes.old }
+        ensures lent { result.bytes.ghost_name ≡ bytes.entry.ghost_name }
+        ensures tells { Decides result.sound (StripForm bytes.old) }
+    {
+        let sound = bytes_are_in_form(bytes);
+        Strip { bytes, sound }
+    }
+
+    // The part of a cell; none where the bytes are not in form, or for a cell of 7 or more.
+    fn part(&self, cell: u16) -> Option<&[u8]>
+        ensures cell { MatchOption result (cell_at (cells_in self.now) cell ≡ fresh 0) (λ p. cell_at (cells_in self.now) cell ≡ part_cell p.now) }
+        ensures place { IfSome result (λ p. (self.now.sound ≡ true) × (cell < 7) × (p.now ≡ part (bytes_in self.now) cell)) }
+        ensures form { IfSome result (λ p. PartForm p.now) }
+        ensures size { IfSome result (λ p. length p.now ≤ 8192) }
+    {
+        if !self.sound || cell >= 7 {
+            return None;
+        }
+        Some(part_of(self.bytes, cell as usize))
+    }
+
+    // Where the first empty slot of a cell begins; none where the cell has no writes left.
+    fn first_empty(&self, cell: u16) -> Option<usize>
+        ensures place { result ≡ (if is_worn (cells_in self.now) cell then None else Some (next_slot (bytes_in self.now) cell)) }
+        ensures part { IfSome result (λ _. (self.now.sound ≡ true) × (cell < 7) × (filled (part (bytes_in self.now) cell) < slots_in (part (bytes_in self.now) cell))) }
+        ensures room { IfSome result (λ at. at + 8 ≤ length (bytes_in self.now)) }
+    {
+        let part = self.part(cell)?;
+        let n = filled_slots(part);
+        if n == part.len() / 8 {
+            return None;
+        }
+        Some(cell as usize * part.len() + 8 * n)
+    }
+
+    // The writes left of a cell, its empty slots; none for a cell of 7 or more.
+    pub fn left(&self, cell: u16) -> u16
+        ensures { result ≡ (cell_at (cells_in self.now) cell).left }
+    {
+        let Some(part) = self.part(cell) else {
+            return 0;
+        };
+        (part.len() / 8 - filled_slots(part)) as u16
+    }
+}
+
+// The part of a cell.
+fn part_of(bytes: &[u8], cell: usize) -> &[u8]
+    requires { cell < 7 }
+    ensures { result.now ≡ part bytes.now cell }
+{
+    let size = bytes.len() / 7;
+    &bytes[cell * size..cell * size + size]
+}
+
+// Whether all seven parts are in form.
+fn parts_are_in_form(bytes: &[u8]) -> bool
+    ensures { Decides result ((c : ℕ) → c < 7 → PartForm (part bytes.now c)) }
+{
+    (0..7).all(|cell| is_in_form(part_of(bytes, cell)))
+}
+
+// Whether the bytes are a multiple of 56, from 56 to 57,344, and all seven parts are in form.
+fn bytes_are_in_form(bytes: &[u8]) -> bool
+    ensures { Decides result (StripForm bytes.now) }
+{
+    let n = bytes.len();
+    n % 56 == 0 && (56..=57_344).contains(&n) && parts_are_in_form(bytes)
+}
+
+impl<'a> Cabinet for Strip<'a> {
+    ghost use Rattle.cabinet.specs.Strips.{bytes_in, cells_in, strip_seven};
+
+    ghost cells = { strip_seven };
+
+    fn held(&self, cell: u16) -> CellRecord {
+        match self.part(cell) {
+            Some(part) => last_record(part),
+            None => CellRecord::zero(),
+        }
+    }
+
+    fn worn(&self, cell: u16) -> bool {
+        self.first_empty(cell).is_none()
+    }
+
+    // Fills the first empty slot of the cell's part; every other byte stays. The slot's first byte
+    // comes last: until then the slot is empty.
+    fn put(&mut self, cell: u16, new: CellRecord) -> Result<(), Worn>
+        ensures result { result ≡ (if is_worn (cells_in self.old) cell then Err (record { cell = cell }) else Ok tt) }
+        ensures after { cells_in self.new ≡ put_cells (cells_in self.old) cell (row_of new) }
+        ensures bytes { bytes_in self.new ≡ put_bytes self.old.sound (bytes_in self.old) cell (row_of new) }
+        ensures form { self.new.sound ≡ self.old.sound }
+        ensures lent { self.new.bytes.ghost_name ≡ self.old.bytes.ghost_name }
+    {
+        let Some(at) = self.first_empty(cell) else {
+            return Err(Worn { cell });
+        };
+        let slot = slot_of(new);
+        self.bytes[at + 1..at + 8].copy_from_slice(&slot[1..]);
+        self.bytes[at] = slot[0];
+        Ok(())
+    }
 }

@@ -16,6 +16,7 @@ use Rattle.controller.specs.declared.slips.Slip.{Slip}
 use Rattle.controller.specs.Books.{appended, at_place, cap_of, in_use}
 use Rattle.controller.specs.Questions.{Question, Written, asks, message, q, refusal_at}
 use Rattle.controller.specs.Records.{is_active, is_primary, is_up}
+use Rattle.controller.specs.Slips.{slip_of}
 
 -- the questions of every step of a primary
 abbrev pub primary_asks : Controller → List Question → List Question
@@ -28,7 +29,7 @@ module _ {E : Type 0} where
       asks (primary_asks r (q 11 (nat_lt r.length (cap_of book)) ∷ []))
       (λ k. record { result = Err (refusal_at i k); row = r; book = book })
       (record {
-        result = Ok (record { view = r.views.current; place = place_of (r.length + 1) });
+        result = Ok (slip_of (record { view = r.views.current; place = place_of (r.length + 1) }));
         row = appended i r;
         book = slice_set book r.length (record { view = r.views.current; change = x });
       })

@@ -12,32 +12,22 @@ pub fn capacity<E>(book: &[Entry<E>]) -> u16
     ensures value { result ≡ cap_of book.now }
     ensures within { result ≤ length book.now }
 {
-    let len = book.len();
-    if len < 65_535 { len as u16 } else { 65_535 }
+    book.len().min(65_535) as u16
 }
 
 // The entries in use.
 pub fn used<'a, E>(row: &Controller, book: &'a [Entry<E>]) -> &'a [Entry<E>]
     ensures { result.now ≡ in_use row.now book.now }
 {
-    let len = row.length as usize;
-    if len < book.len() {
-        &book[0..len]
-    } else {
-        book
-    }
+    book.get(..row.length as usize).unwrap_or(book)
 }
 
 // The entry at a place of the entries in use.
 pub fn entry_at<E: Copy>(row: &Controller, book: &[Entry<E>], place: Place) -> Option<Entry<E>>
     ensures { result ≡ at_place (in_use row.now book.now) place.number }
 {
-    let k = place.number as usize;
-    let entries = used(row, book);
-    if k < 1 || k > entries.len() {
-        return None;
-    }
-    Some(entries[k - 1])
+    let k = usize::from(place.number).checked_sub(1)?;
+    used(row, book).get(k).copied()
 }
 
 // Appends an entry. A primary's own acknowledged length is its length.
@@ -47,10 +37,8 @@ pub fn append<E: Copy>(me: Member, row: &mut Controller, book: &mut [Entry<E>], 
     ensures book { book.new ≡ slice_set book.old row.old.length entry }
 {
     book[row.length as usize] = entry;
-    let length = row.length + 1;
-    row.length = length;
-    if let Status::Primary { mut lengths } = row.status {
-        lengths[me.index()] = Some(length);
-        row.status = Status::Primary { lengths };
+    row.length += 1;
+    if let Status::Primary { lengths } = &mut row.status {
+        lengths[me.index()] = Some(row.length);
     }
 }

@@ -1,57 +1,68 @@
 // What a message does to its addressee.
 ghost use Rattle.std.specs.Prelude.{◌≡◌, ◌<◌, ◌≤◌, true};
 ghost use Rattle.controller.specs.Books.{cap_of};
-ghost use Rattle.controller.specs.Deliveries.{delivered, larger as larger_of, taken, took_acknowledgement, took_answer, took_entry, took_form, took_invitation};
+ghost use Rattle.controller.specs.Deliveries.{delivered, taken, took_acknowledgement, took_answer, took_entry, took_form, took_invitation};
 ghost use Rattle.controller.specs.Messages.{body_ok, message_ok, reply_ok, view_below};
 
 use crate::books::{append, capacity};
 use crate::faults::Fault;
-use crate::questions::ask;
-use crate::records::{Controller, Status};
+use crate::questions::{ask, refused};
+use crate::records::{Controller, Status, only};
 use crate::view_changes::{put_views, reply};
 use cabinet::Cabinet;
 use entries::{Body, Entry, Message, Reply};
 use forming::Member;
 use numbers::{Place, Refusal, Row, View};
 
-fn view_is_below(n: u16, view: View) -> bool
-    ensures { result ≡ view_below n view }
-{
-    view.count.number <= 16_383 && view.controller.number < n
+// The sizes of a site: n controllers, and cap entries a book.
+#[derive(Clone, Copy)]
+struct Sizes {
+    n: u16,
+    cap: u16,
 }
 
-fn reply_is_ok(n: u16, cap: u16, reply: Reply) -> bool
-    ensures { result ≡ reply_ok n cap reply }
-{
-    match reply {
-        Reply::Normal {
-            current,
-            length,
-            ..
-        } => view_is_below(n, current) && length <= cap,
-        Reply::Crash { current } => view_is_below(n, current),
+impl Sizes {
+    fn view_is_below(self, view: View) -> bool
+        ensures { result ≡ view_below self.n view }
+    {
+        view.count.number <= 16_383 && view.controller.number < self.n
     }
-}
 
-fn body_is_ok<E: Copy>(n: u16, cap: u16, body: Body<E>) -> bool
-    ensures { result ≡ body_ok n cap body }
-{
-    match body {
-        Body::Invitation | Body::Form => true,
-        Body::Answer { reply } => reply_is_ok(n, cap, reply),
-        Body::Entry { place, entry } => view_is_below(n, entry.view) && place.number <= cap,
-        Body::Acknowledgement { length } => length <= cap,
+    fn reply_is_ok(self, reply: Reply) -> bool
+        ensures { result ≡ reply_ok self.n self.cap reply }
+    {
+        match reply {
+            Reply::Normal {
+                current,
+                length,
+                ..
+            } => self.view_is_below(current) && length <= self.cap,
+            Reply::Crash { current } => self.view_is_below(current),
+        }
     }
-}
 
-// Whether every number of the message is in range, in a site of n controllers and cap entries a book.
-pub fn message_is_ok<E: Copy>(n: u16, cap: u16, message: Message<E>) -> bool
-    ensures { result ≡ message_ok n cap message }
-{
-    message.sender.number < n
-        && message.addressee.number < n
-        && view_is_below(n, message.view)
-        && body_is_ok(n, cap, message.body)
+    fn body_is_ok<E: Copy>(self, body: Body<E>) -> bool
+        ensures { result ≡ body_ok self.n self.cap body }
+    {
+        match body {
+            Body::Invitation | Body::Form => true,
+            Body::Answer { reply } => self.reply_is_ok(reply),
+            Body::Entry { place, entry } => {
+                self.view_is_below(entry.view) && place.number <= self.cap
+            }
+            Body::Acknowledgement { length } => length <= self.cap,
+        }
+    }
+
+    // Whether every number of the message is in range.
+    fn message_is_ok<E: Copy>(self, message: Message<E>) -> bool
+        ensures { result ≡ message_ok self.n self.cap message }
+    {
+        message.sender.number < self.n
+            && message.addressee.number < self.n
+            && self.view_is_below(message.view)
+            && self.body_is_ok(message.body)
+    }
 }
 
 // An invitation to a view: it is promised and answered.
@@ -66,15 +77,11 @@ fn take_invitation<E: Copy, C: Cabinet>(
     ensures row { row.new ≡ (took_invitation me.number row.old message (C.cells cab.old).list room).row }
     ensures cells { (C.cells cab.new).list ≡ (took_invitation me.number row.old message (C.cells cab.old).list room).cells }
 {
-    ask(
-        me,
-        row.views.promised.is_earlier(message.view),
-        Refusal::WrongView,
-    )?;
+    ask(me, row.views.promised < message.view, Refusal::WrongView)?;
     ask(me, room, Refusal::PoolFull)?;
     let views = Row {
-        current: row.views.current,
         promised: message.view,
+        ..row.views
     };
     put_views(me, cab, views)?;
     let body = Body::Answer {
@@ -103,11 +110,7 @@ fn take_answer<E: Copy>(
     ensures row { row.new ≡ (took_answer me.number row.old message answers reply).row }
 {
     let from = message.sender.number as usize;
-    ask(
-        me,
-        message.view.is_same(row.views.promised),
-        Refusal::WrongView,
-    )?;
+    ask(me, message.view == row.views.promised, Refusal::WrongView)?;
     ask(me, answers[from].is_none(), Refusal::DoesNotFit)?;
     answers[from] = Some(reply);
     row.status = Status::Manager { answers };
@@ -125,20 +128,16 @@ fn take_form<E: Copy, C: Cabinet>(
     ensures row { row.new ≡ (took_form me.number row.old message (C.cells cab.old).list).row }
     ensures cells { (C.cells cab.new).list ≡ (took_form me.number row.old message (C.cells cab.old).list).cells }
 {
-    ask(
-        me,
-        message.view.is_same(row.views.promised),
-        Refusal::WrongView,
-    )?;
+    ask(me, message.view == row.views.promised, Refusal::WrongView)?;
     ask(me, row.complete, Refusal::IncompleteBook)?;
     let views = Row {
         current: message.view,
-        promised: row.views.promised,
+        ..row.views
     };
     put_views(me, cab, views)?;
-    let mut lengths = [None; 7];
-    lengths[me.index()] = Some(row.length);
-    row.status = Status::Primary { lengths };
+    row.status = Status::Primary {
+        lengths: only(me, row.length),
+    };
     row.views = views;
     row.primary = me.number();
     Ok(None)
@@ -159,11 +158,7 @@ fn take_entry<E: Copy>(
     ensures row { row.new ≡ (took_entry me.number row.old message book.old place entry room).row }
     ensures book { book.new ≡ (took_entry me.number row.old message book.old place entry room).book }
 {
-    ask(
-        me,
-        message.view.is_same(row.views.current),
-        Refusal::WrongView,
-    )?;
+    ask(me, message.view == row.views.current, Refusal::WrongView)?;
     ask(
         me,
         place.number as u32 == row.length as u32 + 1,
@@ -180,15 +175,6 @@ fn take_entry<E: Copy>(
     }))
 }
 
-fn larger(old: Option<u16>, new: u16) -> u16
-    ensures { result ≡ larger_of old new }
-{
-    match old {
-        Some(length) => length.max(new),
-        None => new,
-    }
-}
-
 // An acknowledgement to this primary: the larger of the sender's lengths is kept.
 fn take_acknowledgement<E: Copy>(
     me: Member,
@@ -202,18 +188,16 @@ fn take_acknowledgement<E: Copy>(
     ensures row { row.new ≡ (took_acknowledgement me.number row.old message lengths length).row }
 {
     let from = message.sender.number as usize;
-    ask(
-        me,
-        message.view.is_same(row.views.current),
-        Refusal::WrongView,
-    )?;
+    ask(me, message.view == row.views.current, Refusal::WrongView)?;
     ask(me, length <= row.length, Refusal::DoesNotFit)?;
-    lengths[from] = Some(larger(lengths[from], length));
+    lengths[from] = lengths[from].max(Some(length));
     row.status = Status::Primary { lengths };
     Ok(None)
 }
 
 // A message in range, by the addressee's status and the kind of message.
+// A `match` on both: what a delivery does depends on the two together.
+// The functions above return what this one does, also where nothing is sent, so each arm is a plain call.
 fn take<E: Copy, C: Cabinet>(
     me: Member,
     row: &mut Controller,
@@ -229,32 +213,24 @@ fn take<E: Copy, C: Cabinet>(
     ensures cells { (C.cells cab.new).list ≡ (taken me.number row.old book.old (C.cells cab.old).list message room).cells }
 {
     match (row.status, message.body) {
-        (Status::Down, _) => Err(Fault::Refused {
-            refusal: Refusal::WrongPower,
-            controller: me.number(),
-        }),
+        (Status::Down, _) => Err(refused(me, Refusal::WrongPower)),
         (_, Body::Invitation) => take_invitation(me, row, cab, message, room),
         (Status::Manager { answers }, Body::Answer { reply }) => take_answer(
             me, row, answers, message, reply,
         ),
         (Status::Waiting, Body::Form) => take_form(me, row, cab, message),
+        // two arms: the borrow checker covers neither an or-pattern nor a guard beside a field of type E
         (Status::Backup, Body::Entry { place, entry }) => take_entry(
             me, row, book, message, place, entry, room,
         ),
         (Status::Primary { .. }, Body::Entry { place, entry }) => take_entry(
             me, row, book, message, place, entry, room,
         ),
-        (Status::Backup, Body::Acknowledgement { .. }) => Err(Fault::Refused {
-            refusal: Refusal::NotPrimary,
-            controller: me.number(),
-        }),
+        (Status::Backup, Body::Acknowledgement { .. }) => Err(refused(me, Refusal::NotPrimary)),
         (Status::Primary { lengths }, Body::Acknowledgement { length }) => take_acknowledgement(
             me, row, lengths, message, length,
         ),
-        _ => Err(Fault::Refused {
-            refusal: Refusal::WrongStatus,
-            controller: me.number(),
-        }),
+        _ => Err(refused(me, Refusal::WrongStatus)),
     }
 }
 
@@ -272,10 +248,10 @@ pub fn deliver<E: Copy, C: Cabinet>(
     ensures book { book.new ≡ (delivered me.n me.number row.old book.old (C.cells cab.old).list message room).book }
     ensures cells { (C.cells cab.new).list ≡ (delivered me.n me.number row.old book.old (C.cells cab.old).list message room).cells }
 {
-    ask(
-        me,
-        message_is_ok(me.n(), capacity(book), message),
-        Refusal::BadMessage,
-    )?;
+    let sizes = Sizes {
+        n: me.n(),
+        cap: capacity(book),
+    };
+    ask(me, sizes.message_is_ok(message), Refusal::BadMessage)?;
     take(me, row, cab, book, message, room)
 }

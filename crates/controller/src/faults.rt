@@ -5,7 +5,7 @@ ghost use Rattle.controller.specs.Faults.{worn_fault};
 use cabinet::Worn;
 use numbers::{ControllerNumber, Refusal};
 
-#[derive(Clone, Copy)]
+#[derive(Clone, Copy, PartialEq, Eq, Debug)]
 pub enum Fault {
     // the cell has no writes left, and whose it is
     Worn {

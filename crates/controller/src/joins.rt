@@ -29,8 +29,8 @@ pub fn follow<E: Copy, C: Cabinet>(
     ensures row { row.new ≡ (followed me.number row.old book.now (C.cells cab.old).list primary view log.now room).row }
     ensures cells { (C.cells cab.new).list ≡ (followed me.number row.old book.now (C.cells cab.old).list primary view log.now room).cells }
 {
-    ask(me, view.is_same(row.views.promised), Refusal::WrongView)?;
-    ask(me, row.views.current.is_earlier(view), Refusal::WrongView)?;
+    ask(me, view == row.views.promised, Refusal::WrongView)?;
+    ask(me, row.views.current < view, Refusal::WrongView)?;
     ask(
         me,
         log.len() <= capacity(book) as usize,

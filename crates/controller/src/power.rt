@@ -25,9 +25,10 @@ pub fn recover<C: Cabinet>(me: Member, row: &mut Controller, cab: &C) -> Result<
     ensures row { row.new ≡ (recovered (C.cells cab.now).list me.number row.old).row }
 {
     ask(me, !row.is_up(), Refusal::WrongPower)?;
-    let mut back = Controller::down();
-    back.status = Status::Waiting;
-    back.views = cab.held(me.number().number).row();
-    *row = back;
+    *row = Controller {
+        status: Status::Waiting,
+        views: cab.held(me.number().number).row(),
+        ..Controller::down()
+    };
     Ok(())
 }

@@ -1,16 +1,26 @@
 // What a primary does with its book: take a change, pass an entry on; and what any active
 // controller answers from it.
-ghost use Rattle.std.specs.Prelude.{◌≡◌};
-ghost use Rattle.controller.specs.Primaries.{changed, looked_up, passed};
+ghost use Rattle.std.specs.Prelude.{◌≡◌, [], Ok, Err};
+ghost use Rattle.controller.specs.Primaries.{changed, looked_up, passed, primary_asks};
+ghost use Rattle.controller.specs.Questions.{asks, refusal_at};
 
 use crate::books::{append, capacity, entry_at, used};
 use crate::faults::Fault;
-use crate::questions::ask;
+use crate::questions::{ask, refused};
 use crate::records::Controller;
 use crate::slips::Slip;
 use entries::{Answer, Body, Entry, Kind, Message, Question};
 use forming::Member;
 use numbers::{ControllerNumber, Place, Refusal, Stamp};
+
+// The questions of every step of a primary.
+pub fn ask_primary(me: Member, row: &Controller) -> Result<(), Fault>
+    ensures { result ≡ asks (primary_asks row.now []) (λ k. Err (refusal_at me.number k)) (Ok tt) }
+{
+    ask(me, row.is_up(), Refusal::WrongPower)?;
+    ask(me, row.is_active(), Refusal::WrongStatus)?;
+    ask(me, row.is_primary(), Refusal::NotPrimary)
+}
 
 // Appends a change in the current view, and hands out its slip.
 pub fn change<E: Copy>(
@@ -23,16 +33,12 @@ pub fn change<E: Copy>(
     ensures row { row.new ≡ (changed me.number row.old book.old x).row }
     ensures book { book.new ≡ (changed me.number row.old book.old x).book }
 {
-    ask(me, row.is_up(), Refusal::WrongPower)?;
-    ask(me, row.is_active(), Refusal::WrongStatus)?;
-    ask(me, row.is_primary(), Refusal::NotPrimary)?;
+    ask_primary(me, row)?;
     ask(me, row.length < capacity(book), Refusal::BookFull)?;
     let view = row.views.current;
     append(me, row, book, Entry { view, change: x });
-    Ok(Slip::of(Stamp {
-        view,
-        place: Place { number: row.length },
-    }))
+    let place = Place { number: row.length };
+    Ok(Slip::from(Stamp { view, place }))
 }
 
 // The entry at a place is to go to another controller.
@@ -46,15 +52,8 @@ pub fn pass<E: Copy>(
 ) -> Result<Message<E>, Fault>
     ensures { result ≡ passed me.number row.now book.now to place room }
 {
-    ask(me, row.is_up(), Refusal::WrongPower)?;
-    ask(me, row.is_active(), Refusal::WrongStatus)?;
-    ask(me, row.is_primary(), Refusal::NotPrimary)?;
-    let Some(entry) = entry_at(row, book, place) else {
-        return Err(Fault::Refused {
-            refusal: Refusal::DoesNotFit,
-            controller: me.number(),
-        });
-    };
+    ask_primary(me, row)?;
+    let entry = entry_at(row, book, place).ok_or(refused(me, Refusal::DoesNotFit))?;
     ask(me, room, Refusal::PoolFull)?;
     Ok(Message {
         sender: me.number(),
@@ -71,7 +70,7 @@ pub fn lookup<E: Kind>(
     book: &[Entry<E>],
     question: Question,
 ) -> Result<Answer, Fault>
-    ensures { result ≡ looked_up E.says E.unsettled me.number row.now book.now question }
+    ensures { result ≡ looked_up E.says E.UNSETTLED me.number row.now book.now question }
 {
     ask(me, row.is_up(), Refusal::WrongPower)?;
     ask(me, row.is_active(), Refusal::WrongStatus)?;

@@ -6,15 +6,22 @@ use crate::faults::Fault;
 use forming::Member;
 use numbers::Refusal;
 
+// The fault of a controller whose step was refused.
+pub fn refused(me: Member, refusal: Refusal) -> Fault
+    ensures { result ≡ Refused refusal me.number }
+{
+    Fault::Refused {
+        refusal,
+        controller: me.number(),
+    }
+}
+
 pub fn ask(me: Member, yes: bool, refusal: Refusal) -> Result<(), Fault>
     ensures { MatchResult result (λ _. yes ≡ true) (λ e. (yes ≡ false) × (e ≡ Refused refusal me.number)) }
 {
     if yes {
         Ok(())
     } else {
-        Err(Fault::Refused {
-            refusal,
-            controller: me.number(),
-        })
+        Err(refused(me, refusal))
     }
 }

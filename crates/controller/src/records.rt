@@ -1,9 +1,10 @@
 // A controller's record.
 ghost use Rattle.std.specs.Prelude.{◌≡◌};
-ghost use Rattle.controller.specs.Records.{is_up, is_waiting, is_manager, is_active, is_primary, down_record, first_record, zero_view};
+ghost use Rattle.controller.specs.Records.{is_up, is_waiting, is_manager, is_active, is_primary, down_record, first_record, only as only_of};
 
 use entries::Reply;
-use numbers::{ControllerNumber, Row, View, ViewCount};
+use forming::Member;
+use numbers::{ControllerNumber, Row};
 
 // What a controller is at, with what belongs to it. Active is Backup or Primary.
 #[derive(Clone, Copy)]
@@ -18,6 +19,7 @@ pub enum Status {
 }
 
 // The views are those of the controller's cell while it is up. `primary` is that of the current view.
+// `complete` is a flag, and the length no `Option`: the rules keep both, and name both of a crash.
 #[derive(Clone, Copy)]
 pub struct Controller {
     pub status: Status,
@@ -27,13 +29,13 @@ pub struct Controller {
     pub primary: ControllerNumber,
 }
 
-fn zero_view() -> View
-    ensures { result ≡ zero_view }
+// A table of seven with nothing in it but x, at the member's own number.
+pub fn only<A: Copy>(me: Member, x: A) -> [Option<A>; 7]
+    ensures { result ≡ only_of me.number x }
 {
-    View {
-        count: ViewCount { number: 0 },
-        controller: ControllerNumber { number: 0 },
-    }
+    let mut table = [None; 7];
+    table[me.index()] = Some(x);
+    table
 }
 
 impl Controller {
@@ -41,13 +43,9 @@ impl Controller {
     pub fn down() -> Controller
         ensures { result ≡ down_record }
     {
-        let view = zero_view();
         Controller {
             status: Status::Down,
-            views: Row {
-                current: view,
-                promised: view,
-            },
+            views: Row::ZERO,
             complete: false,
             length: 0,
             primary: ControllerNumber { number: 0 },
@@ -58,7 +56,6 @@ impl Controller {
     pub fn first(number: ControllerNumber) -> Controller
         ensures { result ≡ first_record number }
     {
-        let view = zero_view();
         let status = if number.number == 0 {
             Status::Primary {
                 lengths: [Some(0), None, None, None, None, None, None],
@@ -68,13 +65,8 @@ impl Controller {
         };
         Controller {
             status,
-            views: Row {
-                current: view,
-                promised: view,
-            },
             complete: true,
-            length: 0,
-            primary: ControllerNumber { number: 0 },
+            ..Controller::down()
         }
     }
 

@@ -1,16 +1,17 @@
 // What becomes of a slip: confirmed, lost or waiting.
-ghost use Rattle.std.specs.Prelude.{◌≡◌, ◌&&◌, take};
-ghost use Rattle.numbers.specs.Majorities.{majority_of};
-ghost use Rattle.forming.specs.Counting.{count as count_of};
-ghost use Rattle.controller.specs.Verdicts.{ThreeWays, holds as book_holds, is_confirmed, is_lost, joined, judged, lengths_of, most as most_of, reaches, settled, verdict_of, with_slip};
+ghost use Rattle.std.specs.Prelude.{◌≡◌, ℕ, Bool, Option, take};
+ghost use Rattle.std.specs.Fn.{FnReturnsAt};
+ghost use Rattle.forming.specs.Counting.{Answers};
+ghost use Rattle.controller.specs.Verdicts.{ThreeWays, holds as book_holds, is_confirmed, is_lost, judged, most as most_of, settled, verdict_of, with_slip};
 
 use crate::books::entry_at;
 use crate::faults::Fault;
+use crate::primaries::ask_primary;
 use crate::questions::ask;
 use crate::records::{Controller, Status};
 use crate::slips::{Settled, Slip};
 use entries::Entry;
-use forming::{Member, Test, count};
+use forming::{Member, count};
 use numbers::{Refusal, Stamp, majority};
 
 #[derive(Clone, Copy, PartialEq, Eq, Debug)]
@@ -20,53 +21,29 @@ pub enum Verdict {
     Waiting,
 }
 
-// An acknowledged length of at least this.
-#[derive(Clone, Copy)]
-struct Reaches {
-    length: u16,
-}
-
-impl Test<Option<u16>> for Reaches {
-    ghost passes = { λ t. reaches t.length };
-
-    fn check(&self, x: Option<u16>) -> bool {
-        match x {
-            Some(length) => self.length <= length,
-            None => false,
-        }
-    }
-}
-
-// Any acknowledged length.
-#[derive(Clone, Copy)]
-struct Joined;
-
-impl Test<Option<u16>> for Joined {
-    ghost passes = { λ _. joined };
-
-    fn check(&self, x: Option<u16>) -> bool {
-        x.is_some()
-    }
+// The lengths of the site's controllers, which are the first n of the table.
+fn of_site(me: Member, lengths: &[Option<u16>; 7]) -> &[Option<u16>]
+    ensures { result.now ≡ take me.n lengths.now }
+{
+    &lengths[..me.n() as usize]
 }
 
 // Whether a majority of the lengths that a primary has passes a test.
-fn most<T: Test<Option<u16>> + Drop>(me: Member, row: &Controller, test: T) -> bool
-    ensures { result ≡ most_of me.n (T.Test.passes test) row.now }
+fn most<F: Fn(&Option<u16>) -> bool>(me: Member, row: &Controller, test: F) -> bool
+    requires { F.IsAlwaysCallable test }
+    ensures { (passes : Option ℕ → Bool) → Answers (FnReturnsAt F.Fn test) passes → result ≡ most_of me.n passes row.now }
 {
     let Status::Primary { lengths } = row.status else {
         return false;
     };
-    count_first(me, lengths, test) >= majority(me.n()) as usize
+    count(of_site(me, &lengths), test) >= majority(me.n()) as usize
 }
 
 // Whether the book holds the entry of a stamp.
 fn holds<E: Copy>(row: &Controller, book: &[Entry<E>], stamp: Stamp) -> bool
     ensures { result ≡ book_holds row.now book.now stamp }
 {
-    match entry_at(row, book, stamp.place) {
-        Some(entry) => entry.view.is_same(stamp.view),
-        None => false,
-    }
+    entry_at(row, book, stamp.place).is_some_and(|entry| entry.view == stamp.view)
 }
 
 // The verdict on a stamp.
@@ -78,14 +55,8 @@ pub fn judge<E: Copy>(
 ) -> Result<Verdict, Fault>
     ensures { result ≡ judged me.n me.number row.now book.now stamp }
 {
-    ask(me, row.is_up(), Refusal::WrongPower)?;
-    ask(me, row.is_active(), Refusal::WrongStatus)?;
-    ask(me, row.is_primary(), Refusal::NotPrimary)?;
-    ask(
-        me,
-        !row.views.current.is_earlier(stamp.view),
-        Refusal::WrongView,
-    )?;
+    ask_primary(me, row)?;
+    ask(me, row.views.current >= stamp.view, Refusal::WrongView)?;
     Ok(weigh(me, row, book, stamp))
 }
 
@@ -93,19 +64,14 @@ fn weigh<E: Copy>(me: Member, row: &Controller, book: &[Entry<E>], stamp: Stamp)
     ensures value { result ≡ verdict_of me.n row.now book.now stamp }
     ensures ways { ThreeWays (is_confirmed me.n row.now book.now stamp) (is_lost me.n row.now book.now stamp) result }
 {
+    let place = stamp.place.number;
     if holds(row, book, stamp) {
-        if most(
-            me,
-            row,
-            Reaches {
-                length: stamp.place.number,
-            },
-        ) {
+        if most(me, row, |length| length.is_some_and(|l| place <= l)) {
             return Verdict::Confirmed;
         }
         return Verdict::Waiting;
     }
-    if stamp.view.is_earlier(row.views.current) && most(me, row, Joined) {
+    if stamp.view < row.views.current && most(me, row, |length| length.is_some()) {
         Verdict::Lost
     } else {
         Verdict::Waiting
@@ -142,12 +108,4 @@ fn spend(slip: Slip, verdict: Verdict) -> Settled
             Settled::Lost
         }
     }
-}
-
-// How many of the first n of a primary's table pass a test.
-fn count_first<T: Test<Option<u16>> + Drop>(me: Member, lengths: [Option<u16>; 7], test: T) -> usize
-    ensures { result ≡ count_of (T.Test.passes test) (take me.n lengths) }
-{
-    let n = me.n() as usize;
-    count(&lengths[0..n], test)
 }

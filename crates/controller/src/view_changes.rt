@@ -6,9 +6,9 @@ ghost use Rattle.controller.specs.Records.{reply_of};
 ghost use Rattle.controller.specs.ViewChanges.{called, form_choice, formed, invited, put_after, put_fails};
 
 use crate::faults::Fault;
-use crate::questions::ask;
-use crate::records::{Controller, Status};
-use cabinet::Cabinet;
+use crate::questions::{ask, refused};
+use crate::records::{Controller, Status, only};
+use cabinet::{Cabinet, Worn};
 use entries::{Body, Message, Reply};
 use forming::{Member, choice_of_first};
 use numbers::{CellRecord, ControllerNumber, Refusal, Row, View, ViewCount};
@@ -20,23 +20,10 @@ pub fn put_views<C: Cabinet>(me: Member, cab: &mut C, views: Row) -> Result<(), 
     ensures cells { (C.cells cab.new).list ≡ put_after (C.cells cab.old).list me.number views }
 {
     let cell = me.number().number;
-    match CellRecord::new(views) {
-        Ok(new) => {
-            cab.put(cell, new)?;
-            Ok(())
-        }
-        Err(refusal) => {
-            if cab.worn(cell) {
-                return Err(Fault::Worn {
-                    cell,
-                    controller: me.number(),
-                });
-            }
-            Err(Fault::Refused {
-                refusal,
-                controller: me.number(),
-            })
-        }
+    match CellRecord::try_from(views) {
+        Ok(new) => Ok(cab.put(cell, new)?),
+        Err(_) if cab.worn(cell) => Err(Fault::from(Worn { cell })),
+        Err(refusal) => Err(refused(me, refusal)),
     }
 }
 
@@ -49,7 +36,7 @@ pub fn reply(me: Member, row: &Controller) -> Reply
         Reply::Normal {
             current,
             length: row.length,
-            primary: row.primary.number == me.number().number,
+            primary: row.primary == me.number(),
         }
     } else {
         Reply::Crash { current }
@@ -70,12 +57,11 @@ pub fn call<C: Cabinet>(me: Member, row: &mut Controller, cab: &mut C) -> Result
         controller: me.number(),
     };
     let views = Row {
-        current: row.views.current,
         promised,
+        ..row.views
     };
     put_views(me, cab, views)?;
-    let mut answers = [None; 7];
-    answers[me.index()] = Some(reply(me, row));
+    let answers = only(me, reply(me, row));
     row.status = Status::Manager { answers };
     row.views = views;
     Ok(())
@@ -119,12 +105,7 @@ pub fn form<E>(me: Member, row: &mut Controller, room: bool) -> Result<Message<E
 {
     ask(me, row.is_up(), Refusal::WrongPower)?;
     ask(me, row.is_manager(), Refusal::WrongStatus)?;
-    let Some(addressee) = chosen(me, row) else {
-        return Err(Fault::Refused {
-            refusal: Refusal::NoRuleAllows,
-            controller: me.number(),
-        });
-    };
+    let addressee = chosen(me, row).ok_or(refused(me, Refusal::NoRuleAllows))?;
     ask(me, room, Refusal::PoolFull)?;
     row.status = Status::Waiting;
     Ok(Message {

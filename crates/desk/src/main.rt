@@ -16,15 +16,18 @@ mod orders;
 fn note<E: Kind + Drop>(book: &mut Vec<Entry<E>>, change: E) -> Result<(), AllocFailed<Entry<E>>>
     ensures { book.new.items ≡ (if is_ok result then (book.old.items ++ record { view = view_of 0 0; change = change } ∷ []) else book.old.items) }
 {
-    let view = CellRecord::zero().row().current;
-    book.push(Entry { view, change })
+    book.push(Entry {
+        view: View::ZERO,
+        change,
+    })
 }
 
 fn say(rt: &HostRuntime, answer: Answer) -> anyhow::Result<()> {
-    match answer {
-        Answer::Green => println!(rt; "  green")?,
-        Answer::Red => println!(rt; "  red")?,
-    }
+    let word = match answer {
+        Answer::Green => "green",
+        Answer::Red => "red",
+    };
+    println!(rt; "  {word}")?;
     Ok(())
 }
 
@@ -38,7 +41,7 @@ fn use_cell<C: Cabinet>(
     row: Option<Row>,
 ) -> anyhow::Result<()> {
     if let Some(row) = row {
-        match CellRecord::new(row) {
+        match CellRecord::try_from(row) {
             Ok(new) => {
                 if cabinet.put(cell, new).is_err() {
                     println!(rt; "  {name}: refused, the cell is worn")?;
@@ -63,7 +66,7 @@ fn run(rt: &HostRuntime) -> anyhow::Result<()> {
     for line in rt.lines(rt.alloc()) {
         let text = line?;
         println!(rt; "{text}")?;
-        match orders::read(text.as_str())? {
+        match text.parse::<Order>()? {
             Order::Card(change) => note(&mut cards, change)?,
             Order::Hours(change) => note(&mut hours, change)?,
             Order::AskCard(question) => say(rt, lookup(cards.as_slice(), question))?,

@@ -1,6 +1,8 @@
 // What a line asks the desk for.
 use entries::*;
 use numbers::*;
+use std::num::ParseIntError;
+use std::str::FromStr;
 
 #[derive(Clone, Copy)]
 pub enum Order {
@@ -11,9 +13,11 @@ pub enum Order {
     // a cell, and the row to put into it
     Cell(u16, Option<Row>),
     Remark,
+    // no error of the reading, which would end the desk: the line is answered like the others
     Unknown,
 }
 
+// Any numbers: `View::new` refuses those out of range, and a record of them is to be refused.
 fn view(count: u16, controller: u16) -> View {
     View {
         count: ViewCount { number: count },
@@ -23,39 +27,42 @@ fn view(count: u16, controller: u16) -> View {
 
 // A line is a word and five numbers, of which those that are missing are 0; what follows is not
 // read. One that begins with '#' is a remark.
-pub fn read(line: &str) -> anyhow::Result<Order> {
-    if line.starts_with('#') {
-        return Ok(Order::Remark);
-    }
-    let mut words = line.split_whitespace();
-    let word = words.next().unwrap_or("");
-    let mut numbers = [0; 5];
-    for (number, text) in numbers.iter_mut().zip(words) {
-        *number = text.parse::<u16>()?;
-    }
-    let [first, second, third, fourth, fifth] = numbers;
-    let given = word == "give";
-    Ok(match word {
-        "give" | "withdraw" => Order::Card(CardChange {
-            card: first,
-            doors: second,
-            given,
-        }),
-        "hours" => Order::Hours(HoursChange {
-            door: first,
-            opening: second,
-            shutting: third,
-        }),
-        "card" => Order::AskCard(Question { first, second }),
-        "door" => Order::AskDoor(Question { first, second }),
-        "put" => Order::Cell(
-            first,
-            Some(Row {
-                current: view(second, third),
-                promised: view(fourth, fifth),
+impl FromStr for Order {
+    type Err = ParseIntError;
+
+    fn from_str(line: &str) -> Result<Order, ParseIntError> {
+        if line.starts_with('#') {
+            return Ok(Order::Remark);
+        }
+        let mut words = line.split_whitespace();
+        let word = words.next().unwrap_or("");
+        let mut numbers = [0; 5];
+        for (number, text) in numbers.iter_mut().zip(words) {
+            *number = text.parse()?;
+        }
+        let [first, second, third, fourth, fifth] = numbers;
+        Ok(match word {
+            "give" | "withdraw" => Order::Card(CardChange {
+                card: first,
+                doors: second,
+                given: word == "give",
             }),
-        ),
-        "cell" => Order::Cell(first, None),
-        _ => Order::Unknown,
-    })
+            "hours" => Order::Hours(HoursChange {
+                door: first,
+                opening: second,
+                shutting: third,
+            }),
+            "card" => Order::AskCard(Question { first, second }),
+            "door" => Order::AskDoor(Question { first, second }),
+            "put" => Order::Cell(
+                first,
+                Some(Row {
+                    current: view(second, third),
+                    promised: view(fourth, fifth),
+                }),
+            ),
+            "cell" => Order::Cell(first, None),
+            _ => Order::Unknown,
+        })
+    }
 }

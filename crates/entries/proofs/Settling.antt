@@ -1,24 +1,26 @@
--- How far back a lookup has come: what the end of a book settles, the whole book settles so. Assumes nothing.
-use Rattle.std.proofs.Common.{◌≡◌, ℕ, zero, suc, ◌+◌, ◌-◌, ◌<◌, ◌≤◌, ◌⊎◌, List, [], ◌∷◌, length, get_or, drop, Some, None, Option, unwrap_or, sym, refl, ap, ◌∙◌, subst, inl, inr, arith}
-use Rattle.std.proofs.lemmas.List.{drop_more}
+-- What the last entry of a book settles, and what is left to the entries before it. Assumes nothing.
+use Rattle.std.proofs.Common.{◌≡◌, ℕ, ◌⊎◌, List, [], ◌∷◌, ◌++◌, Some, None, Option, unwrap_or, sym, refl, ap, ◌∙◌, subst, inl, inr, arith}
 use Rattle.entries.specs.declared.book.Entry.{Entry}
 use Rattle.entries.specs.declared.kinds.Answer.{Answer}
 use Rattle.entries.specs.declared.kinds.Question.{Question}
 use Rattle.entries.specs.Lookups.{settled, or_else, looked, NoneSettles, LastSays, Rule}
 
 module _ {E : Type 0} (says : E → Question → Option Answer) where
-  pub settled_drop : (n : ℕ) (es : List (Entry E)) (q : Question) (r : Answer) → settled says (drop n es) q ≡ Some r → settled says es q ≡ Some r
-  settled_drop zero es q r h = h
-  settled_drop (suc n) [] q r h = h
-  settled_drop (suc n) (e ∷ es) q r h = ap (λ o. or_else o (says e.change q)) (settled_drop n es q r h)
+  or_else_assoc : (o p r : Option Answer) → or_else (or_else o p) r ≡ or_else o (or_else p r)
+  or_else_assoc (Some x) p r = refl
+  or_else_assoc None p r = refl
 
-  -- one entry further back, where none from there on settles the question
-  pub settled_back : (es : List (Entry E)) (i : ℕ) (d : Entry E) (q : Question) → 0 < i → i ≤ length es → settled says (drop i es) q ≡ None → settled says (drop (i - 1) es) q ≡ says (get_or es (i - 1) d).change q
-  settled_back es i d q pos within none =
-      let lt : i - 1 < length es = omega arith in
-      let back : (i - 1) + 1 ≡ i = omega arith in
-      let split : drop (i - 1) es ≡ get_or es (i - 1) d ∷ drop i es = drop_more es (i - 1) d lt ∙ ap (λ n. get_or es (i - 1) d ∷ drop n es) back in
-      ap (λ l. settled says l q) split ∙ ap (λ o. or_else o (says (get_or es (i - 1) d).change q)) none
+  or_else_end : (o : Option Answer) → o ≡ or_else o None
+  or_else_end (Some x) = refl
+  or_else_end None = refl
+
+  settled_last : (es : List (Entry E)) (e : Entry E) (q : Question) → settled says (es ++ e ∷ []) q ≡ or_else (says e.change q) (settled says es q)
+  settled_last [] e q = or_else_end (says e.change q)
+  settled_last (x ∷ es) e q = ap (λ o. or_else o (says x.change q)) (settled_last es e q) ∙ or_else_assoc (says e.change q) (settled says es q) (says x.change q)
+
+  -- what the last entry says settles the question or, where it says nothing, what is before it
+  pub settled_from : (whole before : List (Entry E)) (last : Entry E) (q : Question) (o : Option Answer) → whole ≡ before ++ last ∷ [] → says last.change q ≡ o → settled says whole q ≡ or_else o (settled says before q)
+  settled_from whole before last q o split said = ap (λ es. settled says es q) split ∙ settled_last before last q ∙ ap (λ p. or_else p (settled says before q)) said
 
   -- an answer that an entry gives is that entry's, or a later one's
   or_else_some : (o p : Option Answer) (a : Answer) → or_else o p ≡ Some a → (o ≡ Some a) ⊎ ((o ≡ None) × (p ≡ Some a))

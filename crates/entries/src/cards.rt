@@ -16,13 +16,9 @@ pub struct CardChange {
 impl Kind for CardChange {
     ghost says = { card_says };
 
-    ghost unsettled = { Red };
+    ghost UNSETTLED = { Red };
 
     const UNSETTLED: Answer = Answer::Red;
-
-    fn unsettled_answer() -> Answer {
-        Self::UNSETTLED
-    }
 
     fn say(&self, question: Question) -> Option<Answer> {
         let door = question.second;

@@ -15,13 +15,9 @@ pub struct HoursChange {
 impl Kind for HoursChange {
     ghost says = { hours_says };
 
-    ghost unsettled = { Green };
+    ghost UNSETTLED = { Green };
 
     const UNSETTLED: Answer = Answer::Green;
-
-    fn unsettled_answer() -> Answer {
-        Self::UNSETTLED
-    }
 
     fn say(&self, question: Question) -> Option<Answer> {
         let minute = question.second;

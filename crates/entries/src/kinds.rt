@@ -11,7 +11,7 @@ pub enum Answer {
 }
 
 // A question of two numbers, whose meaning is the kind's: a card and a door, a door and a minute.
-#[derive(Clone, Copy)]
+#[derive(Clone, Copy, PartialEq, Eq, Debug)]
 pub struct Question {
     pub first: u16,
     pub second: u16,
@@ -22,14 +22,9 @@ pub trait Kind: Copy {
     ghost says: { Self → Question → Option Answer };
 
     // the answer to a question that no entry settles
-    ghost unsettled: { Answer };
+    ghost UNSETTLED: { Answer };
 
-    // That answer as a constant of the kind. A clause of generic code can't name it, so generic
-    // code calls `unsettled_answer`, whose contract says that it is the same.
     const UNSETTLED: Answer;
-
-    fn unsettled_answer() -> Answer
-        ensures { result ≡ unsettled };
 
     fn say(&self, question: Question) -> Option<Answer>
         ensures { result ≡ says self.now question };

@@ -8,17 +8,17 @@ use crate::kinds::{Answer, Kind, Question};
 // Goes back from the last entry and ends at the first that settles the question; where none
 // does, the kind's own answer.
 pub fn lookup<E: Kind>(book: &[Entry<E>], question: Question) -> Answer
-    ensures value { result ≡ looked E.says E.unsettled book.now question }
-    ensures rule { Rule E.says E.unsettled book.now question result }
+    ensures value { result ≡ looked E.says E.UNSETTLED book.now question }
+    ensures rule { Rule E.says E.UNSETTLED book.now question result }
 {
-    let mut i = book.len();
+    let mut rest = book;
     loop {
-        if i == 0 {
-            break E::unsettled_answer();
-        }
-        i -= 1;
-        if let Some(answer) = book[i].change.say(question) {
+        let Some((last, before)) = rest.split_last() else {
+            break E::UNSETTLED;
+        };
+        if let Some(answer) = last.change.say(question) {
             break answer;
         }
+        rest = before;
     }
 }

@@ -1,5 +1,5 @@
 -- What the choice comes to, step by step. Assumes nothing.
-use Rattle.std.proofs.Common.{◌≡◌, ℕ, ◌-◌, ◌<◌, ◌≤◌, true, false, cond, leb, List, length, get_or, take, IfSome, Some, None, Option, sym, ap, ◌∙◌, arith, length-take, rules}
+use Rattle.std.proofs.Common.{◌≡◌, ℕ, ◌-◌, ◌≤◌, true, false, cond, leb, List, get_or, take, Some, None, Option, sym, ap, ◌∙◌, arith, rules}
 use Rattle.numbers.specs.declared.views.View.{View}
 use Rattle.numbers.specs.Majorities.{majority_of}
 use Rattle.entries.specs.declared.book.Reply.{Reply}
@@ -22,7 +22,3 @@ module _ (answers : List (Option Reply)) (n c : ℕ) (v : View) (most : majority
 -- the first n, as a part of a table from its start is written
 pub same_front : (answers : List (Option Reply)) (m n : ℕ) → m ≡ n → choice (take (m - 0) answers) m ≡ choice (take n answers) n
 same_front answers m n e = ap (λ k. choice (take k answers) m) (omega arith) ∙ ap (λ k. choice (take n answers) k) e
-
-pub fewer : (o : Option ℕ) (answers : List (Option Reply)) (m : ℕ) → m ≤ 7 → IfSome o (λ c. c < length (take (m - 0) answers)) → IfSome o (λ c. c < 7)
-fewer None answers m few h = tt
-fewer (Some c) answers m few h = omega (arith, length-take (m - 0) answers)

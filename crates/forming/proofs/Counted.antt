@@ -1,7 +1,8 @@
--- One element further in a count or a search, and what its answer says of each element. Assumes nothing.
-use Rattle.std.proofs.Common.{◌≡◌, ℕ, zero, suc, ◌+◌, ◌<◌, ◌≤◌, Bool, true, false, cond, ◌&&◌, ◌||◌, List, [], ◌∷◌, length, get_or, drop, Some, None, Option, sym, refl, ap, ◌∙◌, subst, inl, inr, suc-le-suc, le_of_suc-le-suc, not-suc-le-zero, zero-lt-suc, arith}
-use Rattle.std.proofs.lemmas.List.{drop_all, drop_more}
-use Rattle.std.proofs.lemmas.Bool.{and_parts, and_from, or_parts, or_from, or_cases, or_left, or_right, cases_Bool, false≢true}
+-- One element further in a count, and what the answer of a count or a search says of each element. Assumes nothing.
+use Rattle.std.proofs.Common.{◌≡◌, ℕ, zero, suc, ◌+◌, ◌<◌, ◌≤◌, Bool, true, false, cond, List, [], ◌∷◌, length, get_or, drop, Some, None, Option, sym, refl, ap, ◌∙◌, subst, inl, inr, suc-le-suc, le_of_suc-le-suc, not-suc-le-zero, zero-lt-suc, arith}
+use Rattle.std.proofs.lemmas.List.{drop_more}
+use Rattle.std.proofs.lemmas.Bool.{or_parts, or_cases, cases_Bool, false≢true}
+use Rattle.std.proofs.lemmas.List.Recursion.{and_at, and_from_places, or_at}
 use Rattle.forming.specs.Counting.{count, every, some, first, first_from}
 
 made_none : {A : Type 0} (a : A) → Some a ≡ None → ⊥
@@ -27,55 +28,18 @@ module _ {A : Type 0} (test : A → Bool) where
   pub count_no : (xs : List A) (i : ℕ) (x : A) → i < length xs → x ≡ get_or xs i x → test x ≡ false → count test (drop i xs) ≡ count test (drop (i + 1) xs)
   count_no xs i x lt read failed = ap (count test) (split xs i x lt read) ∙ ap (λ b. cond b (1 + count test (drop (i + 1) xs)) (count test (drop (i + 1) xs))) failed
 
-  pub count_end : (xs : List A) (i : ℕ) → length xs ≤ i → count test (drop i xs) ≡ 0
-  count_end xs i h = ap (count test) (drop_all i xs h)
-
-  pub some_yes : (xs : List A) (i : ℕ) (x : A) → i < length xs → x ≡ get_or xs i x → test x ≡ true → some test (drop i xs) ≡ true
-  some_yes xs i x lt read passed = ap (some test) (split xs i x lt read) ∙ ap (λ b. b || some test (drop (i + 1) xs)) passed
-
-  pub some_no : (xs : List A) (i : ℕ) (x : A) → i < length xs → x ≡ get_or xs i x → test x ≡ false → some test (drop i xs) ≡ some test (drop (i + 1) xs)
-  some_no xs i x lt read failed = ap (some test) (split xs i x lt read) ∙ ap (λ b. b || some test (drop (i + 1) xs)) failed
-
-  pub some_end : (xs : List A) (i : ℕ) → length xs ≤ i → some test (drop i xs) ≡ false
-  some_end xs i h = ap (some test) (drop_all i xs h)
-
-  pub every_yes : (xs : List A) (i : ℕ) (x : A) → i < length xs → x ≡ get_or xs i x → test x ≡ true → every test (drop i xs) ≡ every test (drop (i + 1) xs)
-  every_yes xs i x lt read passed = ap (every test) (split xs i x lt read) ∙ ap (λ b. b && every test (drop (i + 1) xs)) passed
-
-  pub every_no : (xs : List A) (i : ℕ) (x : A) → i < length xs → x ≡ get_or xs i x → test x ≡ false → every test (drop i xs) ≡ false
-  every_no xs i x lt read failed = ap (every test) (split xs i x lt read) ∙ ap (λ b. b && every test (drop (i + 1) xs)) failed
-
-  pub every_end : (xs : List A) (i : ℕ) → length xs ≤ i → every test (drop i xs) ≡ true
-  every_end xs i h = ap (every test) (drop_all i xs h)
-
-  pub first_yes : (xs : List A) (i : ℕ) (x : A) → i < length xs → x ≡ get_or xs i x → test x ≡ true → first_from test i (drop i xs) ≡ Some i
-  first_yes xs i x lt read passed = ap (first_from test i) (split xs i x lt read) ∙ ap (λ b. cond b (Some i) (first_from test (i + 1) (drop (i + 1) xs))) passed
-
-  pub first_no : (xs : List A) (i : ℕ) (x : A) → i < length xs → x ≡ get_or xs i x → test x ≡ false → first_from test i (drop i xs) ≡ first_from test (i + 1) (drop (i + 1) xs)
-  first_no xs i x lt read failed = ap (first_from test i) (split xs i x lt read) ∙ ap (λ b. cond b (Some i) (first_from test (i + 1) (drop (i + 1) xs))) failed
-
-  pub first_end : (xs : List A) (i : ℕ) → length xs ≤ i → first_from test i (drop i xs) ≡ None
-  first_end xs i h = ap (first_from test i) (drop_all i xs h)
-
   -- where every one passes, the one at i does
   pub every_at : (xs : List A) (i : ℕ) (d : A) → every test xs ≡ true → i < length xs → test (get_or xs i d) ≡ true
-  every_at [] i d all lt = absurd (not-suc-le-zero lt)
-  every_at (x ∷ xs) zero d all lt = (and_parts (test x) (every test xs) all).0
-  every_at (x ∷ xs) (suc i) d all lt = every_at xs i d (and_parts (test x) (every test xs) all).1 (le_of_suc-le-suc lt)
+  every_at xs i d all lt = and_at (every test) test refl (λ x xs. refl) xs i d lt all
 
   pub every_from : (xs : List A) (d : A) → ((i : ℕ) → i < length xs → test (get_or xs i d) ≡ true) → every test xs ≡ true
-  every_from [] d each = refl
-  every_from (x ∷ xs) d each = and_from (test x) (every test xs) (each zero (zero-lt-suc (length xs))) (every_from xs d (λ i lt. each (suc i) (suc-le-suc lt)))
+  every_from xs d each = and_from_places (every test) test refl (λ x xs. refl) xs d each
 
   -- where none passes, the one at i does not
   pub some_none : (xs : List A) (i : ℕ) (d : A) → some test xs ≡ false → i < length xs → test (get_or xs i d) ≡ false
   some_none [] i d none lt = absurd (not-suc-le-zero lt)
   some_none (x ∷ xs) zero d none lt = (or_parts (test x) (some test xs) none).0
   some_none (x ∷ xs) (suc i) d none lt = some_none xs i d (or_parts (test x) (some test xs) none).1 (le_of_suc-le-suc lt)
-
-  pub none_from : (xs : List A) (d : A) → ((i : ℕ) → i < length xs → test (get_or xs i d) ≡ false) → some test xs ≡ false
-  none_from [] d each = refl
-  none_from (x ∷ xs) d each = or_from (test x) (some test xs) (each zero (zero-lt-suc (length xs))) (none_from xs d (λ i lt. each (suc i) (suc-le-suc lt)))
 
   -- one that passes: its number, that the list has it, and that it passes
   abbrev pub PassesAt : List A → A → ℕ → Type 0
@@ -90,9 +54,7 @@ module _ {A : Type 0} (test : A → Bool) where
   some_at (x ∷ xs) d h = elim (or_cases (test x) (some test xs) h) [ inl e ↦ (zero, (zero-lt-suc (length xs), e)) | inr k ↦ later x xs d (some_at xs d k) ]
 
   pub some_from : (xs : List A) (i : ℕ) (d : A) → PassesAt xs d i → some test xs ≡ true
-  some_from [] i d p = absurd (not-suc-le-zero p.0)
-  some_from (x ∷ xs) zero d p = or_left (test x) (some test xs) p.1
-  some_from (x ∷ xs) (suc i) d p = or_right (test x) (some test xs) (some_from xs i d (le_of_suc-le-suc p.0, p.1))
+  some_from xs i d p = or_at (some test) test refl (λ x xs. refl) xs i d p.0 p.1
 
   -- where one or more pass, one does at a number
   pub count_at : (xs : List A) (d : A) → 1 ≤ count test xs → (i : ℕ) × PassesAt xs d i

@@ -1,21 +1,17 @@
-// Counting and searching a table of seven by a test. A test is a value of a type of its own.
+// Counting and searching a table by a test, which is a closure.
 ghost use Rattle.std.specs.Prelude.{◌≡◌, ◌<◌, Bool, length, IfSome};
-ghost use Rattle.forming.specs.Counting.{count as count_of, every as every_of, some as some_of, first as first_of};
+ghost use Rattle.std.specs.Fn.{FnReturnsAt};
+ghost use Rattle.forming.specs.Counting.{Answers, count as count_of, every as every_of, some as some_of, first as first_of};
 
-pub trait Test<A> {
-    ghost passes: { Self → A → Bool };
-
-    fn check(&self, x: A) -> bool
-        ensures { result ≡ passes self.now x };
-}
-
-// How many pass the test.
-pub fn count<A: Copy, T: Test<A> + Drop>(xs: &[A], test: T) -> usize
-    ensures { result ≡ count_of (T.Test.passes test) xs.now }
+// How many pass the test. A loop: the closure of a `filter` would call `test`, and what it gives
+// could not be proved from that.
+pub fn count<A, F: Fn(&A) -> bool>(xs: &[A], test: F) -> usize
+    requires { F.IsAlwaysCallable test }
+    ensures { (passes : A → Bool) → Answers (FnReturnsAt F.Fn test) passes → result ≡ count_of passes xs.now }
 {
     let mut n = 0;
     for x in xs {
-        if test.check(*x) {
+        if test(x) {
             n += 1;
         }
     }
@@ -23,38 +19,26 @@ pub fn count<A: Copy, T: Test<A> + Drop>(xs: &[A], test: T) -> usize
 }
 
 // Whether some one passes the test.
-pub fn some<A: Copy, T: Test<A> + Drop>(xs: &[A], test: T) -> bool
-    ensures { result ≡ some_of (T.Test.passes test) xs.now }
+pub fn some<A, F: Fn(&A) -> bool>(xs: &[A], test: F) -> bool
+    requires { F.IsAlwaysCallable test }
+    ensures { (passes : A → Bool) → Answers (FnReturnsAt F.Fn test) passes → result ≡ some_of passes xs.now }
 {
-    for x in xs {
-        if test.check(*x) {
-            return true;
-        }
-    }
-    false
+    xs.iter().any(&test)
 }
 
 // Whether every one passes the test.
-pub fn every<A: Copy, T: Test<A> + Drop>(xs: &[A], test: T) -> bool
-    ensures { result ≡ every_of (T.Test.passes test) xs.now }
+pub fn every<A, F: Fn(&A) -> bool>(xs: &[A], test: F) -> bool
+    requires { F.IsAlwaysCallable test }
+    ensures { (passes : A → Bool) → Answers (FnReturnsAt F.Fn test) passes → result ≡ every_of passes xs.now }
 {
-    for x in xs {
-        if !test.check(*x) {
-            return false;
-        }
-    }
-    true
+    xs.iter().all(&test)
 }
 
 // The number of the first that passes the test.
-pub fn first<A: Copy, T: Test<A> + Drop>(xs: &[A], test: T) -> Option<usize>
-    ensures value { result ≡ first_of (T.Test.passes test) xs.now }
+pub fn first<A, F: Fn(&A) -> bool>(xs: &[A], test: F) -> Option<usize>
+    requires { F.IsAlwaysCallable test }
+    ensures value { (passes : A → Bool) → Answers (FnReturnsAt F.Fn test) passes → result ≡ first_of passes xs.now }
     ensures within { IfSome result (λ i. i < length xs.now) }
 {
-    for (i, x) in xs.iter().enumerate() {
-        if test.check(*x) {
-            return Some(i);
-        }
-    }
-    None
+    xs.iter().position(&test)
 }

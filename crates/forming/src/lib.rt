@@ -5,6 +5,6 @@ mod counting;
 mod members;
 mod rules;
 
-pub use counting::{Test, count, every, first, some};
+pub use counting::{count, every, first, some};
 pub use members::Member;
 pub use rules::{choice, choice_of_first};

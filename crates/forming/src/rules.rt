@@ -1,162 +1,43 @@
 // The rules by which a manager forms a view from the answers to its call.
-ghost use Rattle.std.specs.Prelude.{◌≡◌, ◌<◌, ◌≤◌, length, take, IfSome};
-ghost use Rattle.forming.specs.Rules.{answered, is_normal, beats, leads as leads_in, crashed_in, crashed_before, crashed_until, is_best, answer_view, rule_3 as rule_three, some_rule, choice as choice_of, ByRules};
+ghost use Rattle.std.specs.Prelude.{◌≡◌, ◌<◌, ◌≤◌, length, take, IfSome, nat_le};
+ghost use Rattle.numbers.specs.Majorities.{majority_of};
+ghost use Rattle.forming.specs.Counting.{count as count_of, every as every_of, some as some_of};
+ghost use Rattle.forming.specs.Rules.{answered, beats as beats_it, is_best as best_of, answer_view, crashed_in, crashed_until, leads, rule_1 as rule_one, rule_2 as rule_two, rule_3 as rule_three, some_rule, choice as choice_of, ByRules};
 
-use crate::counting::{Test, count, every, first, some};
+use crate::counting::{count, every, first, some};
 use crate::members::Member;
 use entries::Reply;
-use numbers::{ControllerNumber, View, ViewCount, majority};
+use numbers::{View, majority};
 
-// There is an answer.
-#[derive(Clone, Copy)]
-struct Answered;
-
-impl Test<Option<Reply>> for Answered {
-    ghost passes = { λ _. answered };
-
-    fn check(&self, x: Option<Reply>) -> bool {
-        x.is_some()
+// A normal answer of a later view than this, or of this view with a greater length.
+fn beats(view: View, length: u16, answer: &Option<Reply>) -> bool
+    ensures { result ≡ beats_it view length answer.now }
+{
+    match *answer {
+        Some(
+            Reply::Normal {
+                current,
+                length: other,
+                ..
+            },
+        ) => (view, length) < (current, other),
+        _ => false,
     }
 }
 
-// The answer is normal.
-#[derive(Clone, Copy)]
-struct IsNormal;
-
-impl Test<Option<Reply>> for IsNormal {
-    ghost passes = { λ _. is_normal };
-
-    fn check(&self, x: Option<Reply>) -> bool {
-        matches!(x, Some(Reply::Normal { .. }))
-    }
-}
-
-// A normal answer of a later view, or of this view with a greater length.
-#[derive(Clone, Copy)]
-struct Beats {
-    view: View,
-    length: u16,
-}
-
-impl Test<Option<Reply>> for Beats {
-    ghost passes = { λ t. beats t.view t.length };
-
-    fn check(&self, x: Option<Reply>) -> bool {
-        match x {
-            Some(
-                Reply::Normal {
-                    current,
-                    length,
-                    ..
-                },
-            ) => {
-                self.view.is_earlier(current) || self.view.is_same(current) && self.length < length
-            }
-            _ => false,
-        }
-    }
-}
-
-// A normal answer of this view that says primary.
-#[derive(Clone, Copy)]
-struct Leads {
-    view: View,
-}
-
-impl Test<Option<Reply>> for Leads {
-    ghost passes = { λ t. leads_in t.view };
-
-    fn check(&self, x: Option<Reply>) -> bool {
-        match x {
-            Some(
-                Reply::Normal {
-                    current,
-                    primary,
-                    ..
-                },
-            ) => self.view.is_same(current) && primary,
-            _ => false,
-        }
-    }
-}
-
-// A crash answer of this view.
-#[derive(Clone, Copy)]
-struct CrashedIn {
-    view: View,
-}
-
-impl Test<Option<Reply>> for CrashedIn {
-    ghost passes = { λ t. crashed_in t.view };
-
-    fn check(&self, x: Option<Reply>) -> bool {
-        match x {
-            Some(Reply::Crash { current }) => self.view.is_same(current),
-            _ => false,
-        }
-    }
-}
-
-// No crash answer of this view or a later one.
-#[derive(Clone, Copy)]
-struct CrashedBefore {
-    view: View,
-}
-
-impl Test<Option<Reply>> for CrashedBefore {
-    ghost passes = { λ t. crashed_before t.view };
-
-    fn check(&self, x: Option<Reply>) -> bool {
-        match x {
-            Some(Reply::Crash { current }) => current.is_earlier(self.view),
-            _ => true,
-        }
-    }
-}
-
-// No crash answer of a later view than this.
-#[derive(Clone, Copy)]
-struct CrashedUntil {
-    view: View,
-}
-
-impl Test<Option<Reply>> for CrashedUntil {
-    ghost passes = { λ t. crashed_until t.view };
-
-    fn check(&self, x: Option<Reply>) -> bool {
-        match x {
-            Some(Reply::Crash { current }) => !self.view.is_earlier(current),
-            _ => true,
-        }
-    }
-}
-
-// A normal answer that none of these beats.
-#[derive(Clone, Copy)]
-struct Best<'a> {
-    answers: &'a [Option<Reply>],
-}
-
-impl<'a> Test<Option<Reply>> for Best<'a> {
-    ghost passes = { λ t. is_best t.answers.now };
-
-    fn check(&self, x: Option<Reply>) -> bool {
-        match x {
-            Some(
-                Reply::Normal {
-                    current,
-                    length,
-                    ..
-                },
-            ) => !some(
-                self.answers,
-                Beats {
-                    view: current,
-                    length,
-                },
-            ),
-            _ => false,
-        }
+// A normal answer that none beats: of the latest normal view, and in it of the greatest length.
+fn is_best(answers: &[Option<Reply>], answer: &Option<Reply>) -> bool
+    ensures { result ≡ best_of answers.now answer.now }
+{
+    match *answer {
+        Some(
+            Reply::Normal {
+                current,
+                length,
+                ..
+            },
+        ) => { !some(answers, |other| beats(current, length, other)) }
+        _ => false,
     }
 }
 
@@ -165,31 +46,79 @@ fn view_of(answer: Option<Reply>) -> View
     ensures { result ≡ answer_view answer }
 {
     match answer {
-        Some(Reply::Normal { current, .. }) => current,
-        Some(Reply::Crash { current }) => current,
-        None => View {
-            count: ViewCount { number: 0 },
-            controller: ControllerNumber { number: 0 },
-        },
+        Some(Reply::Normal { current, .. } | Reply::Crash { current }) => current,
+        None => View::ZERO,
     }
 }
 
-// The latest crash and normal views are equal, and the primary of that view answered normally.
-fn rule_3(answers: &[Option<Reply>], view: View) -> bool
-    ensures { result ≡ rule_three answers.now view }
+// A majority have answered.
+fn has_majority(n: u16, answers: &[Option<Reply>]) -> bool
+    ensures { result ≡ nat_le (majority_of n) (count_of answered answers.now) }
 {
-    some(answers, CrashedIn { view })
-        && every(answers, CrashedUntil { view })
-        && some(answers, Leads { view })
+    count(answers, |answer| answer.is_some()) >= majority(n) as usize
 }
 
-// Whether one of the three rules allows the view, where `view` is the latest normal one.
-fn allowed(n: u16, answers: &[Option<Reply>], view: View) -> bool
-    ensures { result ≡ some_rule answers.now n view }
+// A majority answered normally.
+fn rule_1(n: u16, answers: &[Option<Reply>]) -> bool
+    ensures { result ≡ rule_one answers.now n }
 {
-    count(answers, IsNormal) >= majority(n) as usize
-        || every(answers, CrashedBefore { view })
-        || rule_3(answers, view)
+    let normal = count(
+        answers,
+        |answer| matches!(answer, Some(Reply::Normal { .. })),
+    );
+    normal >= majority(n) as usize
+}
+
+// Every crash answer's view is earlier than the latest normal one.
+fn rule_2(answers: &[Option<Reply>], newest: View) -> bool
+    ensures { result ≡ rule_two answers.now newest }
+{
+    every(answers, |answer| match *answer {
+        Some(Reply::Crash { current }) => current < newest,
+        _ => true,
+    })
+}
+
+// Some crash answer is of the view.
+fn has_crashed(answers: &[Option<Reply>], view: View) -> bool
+    ensures { result ≡ some_of (crashed_in view) answers.now }
+{
+    some(answers, |answer| {
+        matches!(*answer, Some(Reply::Crash { current }) if current == view)
+    })
+}
+
+// No crash answer is of a later view.
+fn crashed_by(answers: &[Option<Reply>], view: View) -> bool
+    ensures { result ≡ every_of (crashed_until view) answers.now }
+{
+    every(answers, |answer| match *answer {
+        Some(Reply::Crash { current }) => current <= view,
+        _ => true,
+    })
+}
+
+// The primary of the view answered normally.
+fn is_led(answers: &[Option<Reply>], view: View) -> bool
+    ensures { result ≡ some_of (leads view) answers.now }
+{
+    some(answers, |answer| {
+        matches!(*answer, Some(Reply::Normal { current, primary: true, .. }) if current == view)
+    })
+}
+
+// The latest crash and normal views are equal, and the primary of that view answered normally.
+fn rule_3(answers: &[Option<Reply>], newest: View) -> bool
+    ensures { result ≡ rule_three answers.now newest }
+{
+    has_crashed(answers, newest) && crashed_by(answers, newest) && is_led(answers, newest)
+}
+
+// Whether one of the three rules allows the view, where `newest` is the latest normal one.
+fn allowed(n: u16, answers: &[Option<Reply>], newest: View) -> bool
+    ensures { result ≡ some_rule answers.now n newest }
+{
+    rule_1(n, answers) || rule_2(answers, newest) || rule_3(answers, newest)
 }
 
 // The controller that becomes primary of the view, or none where no rule allows it. The answers
@@ -199,10 +128,10 @@ pub fn choice(n: u16, answers: &[Option<Reply>]) -> Option<usize>
     ensures rule { ByRules answers.now n result }
     ensures within { IfSome result (λ c. c < length answers.now) }
 {
-    if count(answers, Answered) < majority(n) as usize {
+    if !has_majority(n, answers) {
         return None;
     }
-    let chosen = first(answers, Best { answers })?;
+    let chosen = first(answers, |answer| is_best(answers, answer))?;
     if allowed(n, answers, view_of(answers[chosen])) {
         Some(chosen)
     } else {

@@ -2,14 +2,15 @@
 #![tactic(auto)]
 
 mod majorities;
+mod order;
 mod records;
 mod refusals;
 mod rows;
 mod views;
 
 pub use majorities::majority;
+pub use order::views_are_ordered;
 pub use records::CellRecord;
 pub use refusals::Refusal;
 pub use rows::Row;
-pub use views::calls::views_are_ordered;
 pub use views::{ControllerNumber, Place, Stamp, View, ViewCount};

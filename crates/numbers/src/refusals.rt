@@ -1,6 +1,5 @@
 // Why a call was refused: one case for each question that a call can fail.
 ghost use Rattle.std.specs.Prelude.{◌≡◌};
-ghost use Rattle.numbers.specs.Refusals.{number_of, refusal};
 
 #[derive(Clone, Copy, PartialEq, Eq, Debug)]
 pub enum Refusal {
@@ -41,13 +40,14 @@ pub enum Refusal {
     BadForm,
 }
 
-impl Refusal {
-    // The number by which users know the refusal.
-    pub fn number(self) -> u8
-        ensures value { result ≡ number_of self }
-        ensures listed { refusal result ≡ self }
-    {
-        match self {
+// The number by which users know the refusal.
+impl From<Refusal> for u8 {
+    ghost use Rattle.numbers.specs.Refusals.{number_of, refusal};
+
+    ghost from_gives = { λ r n. (n ≡ number_of r) × (refusal n ≡ r) };
+
+    fn from(refusal: Refusal) -> u8 {
+        match refusal {
             Refusal::NotMade => 1,
             Refusal::NoSuchController => 2,
             Refusal::NoSuchMessage => 3,

@@ -6,3 +6,11 @@ pub struct Row {
     pub current: View,
     pub promised: View,
 }
+
+impl Row {
+    // Twice the view (0, 0).
+    pub const ZERO: Row = Row {
+        current: View::ZERO,
+        promised: View::ZERO,
+    };
+}

@@ -14,7 +14,7 @@ use Rattle.controller.specs.Books.{appended, cap_of}
 use Rattle.controller.specs.Primaries.{changed, primary_asks}
 use Rattle.controller.specs.Questions.{Written, q, refusal_at}
 use Rattle.controller.specs.Records.{is_primary, is_up, leading, with_status}
-use Rattle.controller.specs.Slips.{stamp_on}
+use Rattle.controller.specs.Slips.{slip_of, stamp_on}
 use Rattle.site.specs.States.{Done, State, book, row}
 use Rattle.site.specs.Steps.{after_change, refuse, site_asks}
 use Rattle.protocol.specs.Model as model
@@ -54,13 +54,13 @@ module _ {E : Type 0} (says : E → Question → Option Light) (unsettled : Ligh
 
   abbrev taken : Written Slip E
   taken = record {
-    result = Ok (record { view = (row s i).views.current; place = place_of ((row s i).length + 1) });
+    result = Ok (slip_of (record { view = (row s i).views.current; place = place_of ((row s i).length + 1) }));
     row = appended i (row s i);
     book = set (book s i) (row s i).length (record { view = (row s i).views.current; change = x });
   }
 
   abbrev P : Done Slip E → Type 0
-  P d = Sim d.state (tells s (Change i x) (stepped (λ slip. Changed (stamp_on slip)) d).outcome d.state ++ h)
+  P d = Sim d.state (tells s (Change i x) (stepped (λ slip. Changed (stamp_on slip)) d).result d.state ++ h)
 
   taking : i.number < n → is_up (row s i) ≡ true → is_primary (row s i) ≡ true → (row s i).length < cap_of (book s i) → P (after_change s i taken)
   taking below up leads fits =
@@ -78,7 +78,7 @@ module _ {E : Type 0} (says : E → Question → Option Light) (unsettled : Ligh
       record {
         site = model.after_change m i.number x;
         run = then run (model.change i.number x (primary_leads n i.number m c.status old.status leads));
-        bond = frame_note says unsettled n _ h _ first (handed (stamp_on (record { view = c.views.current; place = place_of (c.length + 1) })) x) (model.handed r.current r.length x)
+        bond = frame_note says unsettled n _ h _ first (handed (stamp_on (slip_of (record { view = c.views.current; place = place_of (c.length + 1) }))) x) (model.handed r.current r.length x)
             (current_code old up, small, omega (arith, old.len), refl);
       }
 

@@ -2,6 +2,7 @@
 use Rattle.std.proofs.Common.{◌≡◌, ℕ, ◌+◌, ◌*◌, ◌<◌, ◌≤◌, ◌≢◌, ◌⊎◌, List, [], ◌∷◌, ◌++◌, length, get_or, set, Some, Option, sym, refl, ap, ◌∙◌, subst, inl, inr, arith, length-set}
 use Rattle.std.proofs.lemmas.List.{get_or-set_other, get_or-set_same}
 use Rattle.std.proofs.lemmas.Bool.{cases_eq}
+use Rattle.std.proofs.lemmas.Option.{same_Some}
 use Rattle.numbers.specs.declared.rows.Row.{Row}
 use Rattle.numbers.specs.declared.views.ControllerNumber.{ControllerNumber}
 use Rattle.entries.specs.declared.book.Entry.{Entry}
@@ -20,7 +21,7 @@ use Rattle.protocol.specs.Model as model
 use Rattle.protocol.specs.Model.{Replica, Site, note, send}
 use Rattle.runs.specs.History.{Event}
 use Rattle.runs.proofs.Bond.{Bond, EventR, ReplicaR, the_message}
-use Rattle.runs.proofs.Items.{item_set_other, item_set_same, some_same}
+use Rattle.runs.proofs.Items.{item_set_other, item_set_same}
 use Rattle.runs.proofs.Members.{member_front, member_last}
 use Rattle.runs.proofs.Parts.{part_ends, part_long, with_part_long, with_part_other, with_part_same}
 
@@ -126,7 +127,7 @@ module _ {E : Type 0} (says : E → Question → Option Light) (unsettled : Ligh
           → (j ≡ s.site.count) ⊎ (j ≡ s.site.count → ⊥) → Member (the_message y) (m.pool ++ (the_message x ∷ []))
       at j y lt read (inl e) =
           let new : Some x ≡ Some y = sym (item_set_same s.pool s.site.count x room) ∙ subst (λ k. item (set s.pool s.site.count x) k ≡ Some y) e read in
-          subst (λ z. Member (the_message z) (m.pool ++ (the_message x ∷ []))) (some_same x y new) (member_last (the_message x) m.pool)
+          subst (λ z. Member (the_message z) (m.pool ++ (the_message x ∷ []))) (same_Some x y new) (member_last (the_message x) m.pool)
       at j y lt read (inr other) =
           member_front (the_message y) m.pool (the_message x ∷ []) (bond.messages j y (omega arith) (sym (item_set_other s.pool s.site.count j x other) ∙ read))
 

@@ -1,16 +1,11 @@
 -- What `item` reads of a list: after a put, and of a list that is made of others. Assumes nothing.
 use Rattle.std.proofs.Common.{◌≡◌, ℕ, zero, suc, ◌-◌, ◌<◌, ◌≤◌, cond, ◌≢◌, ◌⊎◌, List, [], ◌∷◌, ◌++◌, length, take, set, Some, None, Option, sym, refl, ap, ◌∙◌, inl, inr, suc-le-suc, le_of_suc-le-suc, not-suc-le-zero, zero-lt-suc, arith}
 use Rattle.std.proofs.lemmas.Bool.{cases_lt, ne_eqb}
+use Rattle.std.proofs.lemmas.Option.{none-some}
 use Rattle.controller.specs.Books.{at_place, item}
 use Rattle.controller.proofs.Places.{place_zero}
 
 module _ {A : Type 0} where
-  pub some_same : (a b : A) → Some a ≡ Some b → a ≡ b
-  some_same a b h = cc
-
-  pub none_some : (a : A) → None ≡ Some a → ⊥
-  none_some a h = let z : ◌≡◌ {A = ℕ} 0 1 = cc in omega arith
-
   pub cases_option : (o : Option A) → (o ≡ None) ⊎ ((x : A) × (o ≡ Some x))
   cases_option None = inl refl
   cases_option (Some x) = inr (x, refl)
@@ -23,7 +18,7 @@ module _ {A : Type 0} where
   item_some (x ∷ xs) (suc i) lt = item_some xs i (le_of_suc-le-suc lt)
 
   pub item_below : (xs : List A) (i : ℕ) (x : A) → item xs i ≡ Some x → i < length xs
-  item_below [] i x h = absurd (none_some x h)
+  item_below [] i x h = absurd (none-some x h)
   item_below (y ∷ ys) zero x h = zero-lt-suc (length ys)
   item_below (y ∷ ys) (suc i) x h = suc-le-suc (item_below ys i x h)
 
@@ -50,8 +45,8 @@ module _ {A : Type 0} where
   item_take (suc k) (x ∷ xs) (suc j) lt = item_take k xs j (le_of_suc-le-suc lt)
 
   pub item_of_take : (k : ℕ) (xs : List A) (j : ℕ) (x : A) → item (take k xs) j ≡ Some x → (j < k) × (item xs j ≡ Some x)
-  item_of_take zero xs j x h = absurd (none_some x h)
-  item_of_take (suc k) [] j x h = absurd (none_some x h)
+  item_of_take zero xs j x h = absurd (none-some x h)
+  item_of_take (suc k) [] j x h = absurd (none-some x h)
   item_of_take (suc k) (y ∷ ys) zero x h = (zero-lt-suc k, h)
   item_of_take (suc k) (y ∷ ys) (suc j) x h = let rest = item_of_take k ys j x h in (suc-le-suc rest.0, rest.1)
 
@@ -76,5 +71,5 @@ module _ {A : Type 0} where
   place_item xs k x h = by (cases_lt k 1)
     where
       by : (k < 1) ⊎ (1 ≤ k) → (1 ≤ k) × (item xs (k - 1) ≡ Some x)
-      by (inl z) = absurd (none_some x (sym (place_zero xs k z) ∙ h))
+      by (inl z) = absurd (none-some x (sym (place_zero xs k z) ∙ h))
       by (inr z) = (z, sym (at_item xs k z) ∙ h)

@@ -1,6 +1,7 @@
 -- From the protocol's theorem to the three laws in the words of the guarantee. Assumes nothing.
 use Rattle.std.proofs.Common.{◌≡◌, ℕ, suc, ◌-◌, ◌<◌, ◌≤◌, cond, ◌&&◌, eqb, List, [], ◌∷◌, ◌++◌, length, take, Some, Option, sym, refl, ap, ◌∙◌, subst, inl, inr, arith}
 use Rattle.std.proofs.lemmas.Bool.Decides.{nat_tests}
+use Rattle.std.proofs.lemmas.Option.{same_Some}
 use Rattle.numbers.specs.declared.views.Stamp.{Stamp}
 use Rattle.numbers.specs.declared.views.View.{View}
 use Rattle.entries.specs.declared.book.Entry.{Entry}
@@ -17,7 +18,7 @@ use Rattle.runs.specs.Guarantee.{HandedOnce, Holds, Laws, entry_of}
 use Rattle.runs.specs.History.{Event, confirmed, handed, handed_by, handed_with, looked_up, lost, opened, same_stamp}
 use Rattle.runs.proofs.Bond.{BookR, EventR, HistoryR, Small, code, the_entry}
 use Rattle.runs.proofs.Codes.{code_same, code_of_view, earlier_code, same_view_code, coded_view, view_of_code}
-use Rattle.runs.proofs.Items.{at_item, front_same, item_below, item_some, some_same}
+use Rattle.runs.proofs.Items.{at_item, front_same, item_below, item_some}
 use Rattle.runs.proofs.Listed.{item_listed, length_listed, listed}
 
 module _ {E : Type 0} where
@@ -246,7 +247,7 @@ module _ {E : Type 0} where
           let back : k ≡ suc k - 1 = omega arith in
           let there : item the_list k ≡ Some e = ap (item the_list) back ∙ sym (at_item the_list (suc k) (omega arith)) ∙ sym (ap (at_place the_list) it.place) ∙ read in
           let below : k < one.length = omega (arith, item_below the_list k e there, length_listed one.length (λ j. decoded (one.book j))) in
-          let is : decoded (one.book k) ≡ e = some_same (decoded (one.book k)) e (sym (item_listed one.length (λ j. decoded (one.book j)) k below) ∙ there) in
+          let is : decoded (one.book k) ≡ e = same_Some (decoded (one.book k)) e (sym (item_listed one.length (λ j. decoded (one.book j)) k below) ∙ there) in
           one.lacks it.w (code t.view) k it.noted below
           (sym (code_of_view (one.book k).view) ∙ ap (λ x. code x.view) is ∙ ap code view)
 

@@ -1,14 +1,15 @@
 -- A list of turns that is played from its beginning: what is left leads from here to where all leads from the start. Assumes nothing.
-use Rattle.std.proofs.Common.{◌≡◌, ℕ, suc, ◌+◌, ◌<◌, ◌≤◌, List, [], ◌∷◌, ◌++◌, length, get_or, take, drop, set, Option, sym, refl, ap, ◌∙◌, add-one, arith, drop-cons, take-suc-set, drop-set-lt}
+use Rattle.std.proofs.Common.{◌≡◌, ℕ, suc, ◌+◌, ◌<◌, ◌≤◌, List, [], ◌∷◌, ◌++◌, length, get_or, take, drop, set, Some, Option, Result, sym, refl, ap, ◌∙◌, add-one, arith, drop-cons, take-suc-set, drop-set-lt}
 use lib.Seq.{append_snoc}
 use Rattle.std.proofs.lemmas.List.{append-nil, drop_all, take_all}
 use Rattle.entries.specs.declared.kinds.Answer.{Answer}
 use Rattle.entries.specs.declared.kinds.Question.{Question}
-use Rattle.site.specs.States.{State}
+use Rattle.site.specs.declared.faults.Fault.{Fault}
+use Rattle.site.specs.States.{State, done}
 use Rattle.runs.specs.declared.steps.Outcome.{Outcome}
 use Rattle.runs.specs.declared.steps.Step.{Step}
 use Rattle.runs.specs.declared.steps.Turn.{Turn}
-use Rattle.runs.specs.Runs.{played, ran, step, stepped_to, steps_of}
+use Rattle.runs.specs.Runs.{played, ran, step, steps_of}
 
 module _ {E : Type 0} (says : E → Question → Option Answer) (unsettled : Answer) where
   -- the turns `all` are to be played from `start`; the first i are, and led to `here`
@@ -19,13 +20,13 @@ module _ {E : Type 0} (says : E → Question → Option Answer) (unsettled : Ans
   pub leads_start : (start : State E) (all : List (Turn E)) → Leads start all start all 0
   leads_start start all = record { states = refl; outcomes = refl }
 
-  -- the turn with its outcome
-  abbrev pub turn_with : Turn E → Outcome E → Turn E
-  turn_with t o = record { step = t.step; outcome = o }
+  -- the turn with what came of it
+  abbrev pub turn_with : Turn E → Result (Outcome E) Fault → Turn E
+  turn_with t o = record { step = t.step; outcome = Some o }
 
   module _ (start : State E) (all : List (Turn E)) (here : State E) (turns : List (Turn E)) (i : ℕ) (leads : Leads start all here turns i) where
     -- one turn more
-    pub leads_on : (d : Turn E) (o : Outcome E) (there : State E) → i < length turns → step says unsettled here (get_or turns i d).step ≡ stepped_to o there
+    pub leads_on : (d : Turn E) (o : Result (Outcome E) Fault) (there : State E) → i < length turns → step says unsettled here (get_or turns i d).step ≡ done o there
         → Leads start all there (set turns i (turn_with (get_or turns i d) o)) (i + 1)
     leads_on d o there below gives =
         let t = get_or turns i d in
@@ -36,7 +37,7 @@ module _ {E : Type 0} (says : E → Question → Option Answer) (unsettled : Ans
         let goes : ran says unsettled here (steps_of (drop i turns)) ≡ ran says unsettled there (steps_of (drop (suc i) turns)) =
         ap (λ z. ran says unsettled here (steps_of z)) left ∙ ap (λ z. ran says unsettled z.state (steps_of (drop (suc i) turns))) gives in
         let plays : played says unsettled here (drop i turns) ≡ u ∷ played says unsettled there (drop (suc i) turns) =
-        ap (played says unsettled here) left ∙ ap (λ z. turn_with t z.outcome ∷ played says unsettled z.state (drop (suc i) turns)) gives in
+        ap (played says unsettled here) left ∙ ap (λ z. turn_with t z.result ∷ played says unsettled z.state (drop (suc i) turns)) gives in
         record {
           states = ap (λ z. ran says unsettled there (steps_of z)) after ∙ sym goes ∙ leads.states;
           outcomes =

@@ -1,5 +1,4 @@
 pub mod Acting
-pub mod AfterMake
 pub mod Appending
 pub mod Bond
 pub mod Calls
@@ -26,7 +25,6 @@ pub mod Losses
 pub mod Majorities
 pub mod Members
 pub mod Parts
-pub mod Played
 pub mod Power
 pub mod Promises
 pub mod Puts

@@ -45,7 +45,7 @@ module _ {E : Type 0} (says : E → Question → Option Light) (unsettled : Ligh
       }
 
   abbrev L : Question → Done Light E → Type 0
-  L question d = Sim d.state (tells s (Lookup i question) (stepped Answered d).outcome d.state ++ h)
+  L question d = Sim d.state (tells s (Lookup i question) (stepped Answered d).result d.state ++ h)
 
   pub sim_lookup : (question : Question) → Sim (step says unsettled s (Lookup i question)).state (told says unsettled h s (Lookup i question))
   sim_lookup question =

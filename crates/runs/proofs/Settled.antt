@@ -1,6 +1,5 @@
 -- A settle by a slip's numbers: from the slip that was taken up and what came back to the verdict. Assumes nothing.
 use Rattle.std.proofs.Common.{◌≡◌, Bool, true, false, cond, Ok, Err, Result, sym, refl, ap, ◌∙◌}
-use Rattle.numbers.specs.declared.refusals.Refusal.{Refusal}
 use Rattle.numbers.specs.declared.views.ControllerNumber.{ControllerNumber}
 use Rattle.numbers.specs.declared.views.Stamp.{Stamp}
 use Rattle.numbers.specs.Views.{controller_of, stamp_ok}
@@ -9,10 +8,10 @@ use Rattle.controller.specs.declared.slips.Settled.{Settled}
 use Rattle.controller.specs.declared.slips.Slip.{Slip}
 use Rattle.controller.specs.declared.verdicts.Verdict.{Verdict}
 use Rattle.controller.specs.declared.verdicts.Verdict.TheVariants.{Confirmed, Lost, Waiting}
-use Rattle.controller.specs.Slips.{slip_of, stamp_on}
+use Rattle.controller.specs.Slips.{slip_of}
 use Rattle.controller.specs.Verdicts.{judged}
 use Rattle.site.specs.declared.faults.Fault.{Fault}
-use Rattle.site.specs.States.{State, book, done, row}
+use Rattle.site.specs.States.{State, book, done, fault_by, row}
 use Rattle.site.specs.Steps.{placed, refuse, settle_slip, settle_step, site_asks, slip_after}
 use Rattle.site.proofs.Kept.{asks_all}
 use Rattle.runs.specs.Runs.{settle_numbers, verdict_in}
@@ -28,33 +27,35 @@ verdict_back slip (Ok Lost) = refl
 verdict_back slip (Ok Waiting) = refl
 verdict_back slip (Err f) = refl
 
--- a slip is taken up exactly where the stamp is in range, and is the slip of the stamp
-pub taken_up : (b : Bool) (t : Stamp) (no_slip : Refusal) (slip : Slip) → Ok slip ≡ cond b (Ok (slip_of t)) (Err no_slip) → (b ≡ true) × (stamp_on slip ≡ t)
-taken_up true t no_slip slip e = let same : slip ≡ slip_of t = cc in (refl, ap stamp_on same)
-taken_up false t no_slip slip e = ((cc), (cc))
+-- what a take-up of the stamp's slip gives
+abbrev taken_up : Stamp → Bool → Result Slip Fault
+taken_up t ok = cond ok (Ok (slip_of t)) (Err (fault_by (controller_of 0) 17))
 
-pub not_taken_up : (b : Bool) (t : Stamp) (no_slip got : Refusal) → Err got ≡ cond b (Ok (slip_of t)) (Err no_slip) → (b ≡ false) × (got ≡ no_slip)
-not_taken_up true t no_slip got e = ((cc), (cc))
-not_taken_up false t no_slip got e = (refl, (cc))
-
-module _ {E : Type 0} (s : State E) (i : ControllerNumber) where
+module _ {E : Type 0} (s : State E) (i : ControllerNumber) (t : Stamp) where
   placed_still : (v : Result Verdict Stopped) → (placed s v s).state ≡ s
   placed_still (Ok v) = refl
   placed_still (Err f) = refl
 
-  still : (t : Stamp) → (settle_step s i t).state ≡ s
-  still t = asks_all (λ d. d.state ≡ s) (site_asks s i) (refuse s i) (placed s (judged s.site.n i (row s i) (book s i) t) s) (λ k. refl) (placed_still (judged s.site.n i (row s i) (book s i) t))
+  still : (settle_step s i t).state ≡ s
+  still = asks_all (λ d. d.state ≡ s) (site_asks s i) (refuse s i) (placed s (judged s.site.n i (row s i) (book s i) t) s) (λ k. refl) (placed_still (judged s.site.n i (row s i) (book s i) t))
 
-  -- the slip was taken up, and the settle gave r
-  pub settle_up : (t : Stamp) (slip : Slip) (r : Result Settled (Fault × Slip)) → stamp_ok t ≡ true → stamp_on slip ≡ t → settle_slip s i slip ≡ r
-      → settle_numbers s i t ≡ done (result_in r) s
-  settle_up t slip r ok same gives =
-      let result : (settle_step s i (stamp_on slip)).result ≡ result_in r = sym (verdict_back slip (settle_step s i (stamp_on slip)).result) ∙ ap result_in gives in
-      ap (λ b. cond b (settle_step s i t) (refuse s (controller_of 0) 17)) ok
-      ∙ ap (settle_step s i) (sym same)
-      ∙ ap (λ z. done (settle_step s i (stamp_on slip)).result z) (still (stamp_on slip))
-      ∙ ap (λ z. done z s) result
+  settled : (r : Result Settled (Fault × Slip)) → settle_slip s i (slip_of t) ≡ r → settle_step s i t ≡ done (result_in r) s
+  settled r gives =
+      ap (λ z. done (settle_step s i t).result z) still
+      ∙ ap (λ z. done z s) (sym (verdict_back (slip_of t) (settle_step s i t).result) ∙ ap result_in gives)
+
+  -- the slip was taken up, and its settle gave r
+  pub settle_up : (slip : Slip) (r : Result Settled (Fault × Slip)) → Ok slip ≡ taken_up t (stamp_ok t) → settle_slip s i slip ≡ r → settle_numbers s i t ≡ done (result_in r) s
+  settle_up slip r up gives = by (stamp_ok t) up
+    where
+      by : (ok : Bool) → Ok slip ≡ taken_up t ok → cond ok (settle_step s i t) (refuse s (controller_of 0) 17) ≡ done (result_in r) s
+      by true e = let same : slip_of t ≡ slip = cc in settled r (ap (settle_slip s i) same ∙ gives)
+      by false e = absurd (cc)
 
   -- it was not
-  pub settle_not_up : (t : Stamp) → stamp_ok t ≡ false → settle_numbers s i t ≡ refuse s (controller_of 0) 17
-  settle_not_up t ok = ap (λ b. cond b (settle_step s i t) (refuse s (controller_of 0) 17)) ok
+  pub settle_not_up : (f : Fault) → Err f ≡ taken_up t (stamp_ok t) → settle_numbers s i t ≡ done (Err f) s
+  settle_not_up f up = by (stamp_ok t) up
+    where
+      by : (ok : Bool) → Err f ≡ taken_up t ok → cond ok (settle_step s i t) (refuse s (controller_of 0) 17) ≡ done (Err f) s
+      by true e = absurd (cc)
+      by false e = ap (λ z. done (Err z) s) (cc)

@@ -3,6 +3,7 @@ use Rattle.std.proofs.Common.{◌≡◌, ℕ, zero, suc, ◌*◌, ◌<◌, ◌�
 use native.Mathlib.Decide.{ℕ_discrete, dec_lt}
 use Rattle.std.proofs.lemmas.List.FromFn.{get_or-map-range_with_len}
 use Rattle.std.proofs.lemmas.Bool.{and_parts, cases_lt, eqb-true, leb-true, lt-ltb, ne_eqb}
+use Rattle.std.proofs.lemmas.Option.{none-some}
 use Rattle.std.specs.List.{range_with_len}
 use Rattle.numbers.specs.declared.rows.Row.{Row}
 use Rattle.numbers.specs.Rows.{zero_row}
@@ -23,7 +24,6 @@ use Rattle.protocol.specs.Model.{active_replica, made, made_replica}
 use Rattle.runs.specs.History.{opened}
 use Rattle.runs.proofs.Bond.{Bond, ReplicaR, StatusR, the_length}
 use Rattle.runs.proofs.Frame.{replica_as}
-use Rattle.runs.proofs.Items.{none_some}
 
 -- What a taken make was asked
 
@@ -144,7 +144,7 @@ module _ {E : Type 0} (says : E → Question → Option Light) (unsettled : Ligh
               (book (made_state s n cap) (controller_of c)) (book (made_state s n cap) (controller_of c)) (active_replica blank c)
               (made_row_below n c fit.most below) (zero_at s.cells n c zeros below) refl (first_replica blank n c (book (made_state s n cap) (controller_of c))));
           messages = λ j x below read. absurd (not-suc-le-zero below);
-          histories = ((refl, omega arith, record { long = refl; same = λ j e read. absurd (none_some e read); small = λ j e read. absurd (none_some e read) }), tt);
+          histories = ((refl, omega arith, record { long = refl; same = λ j e read. absurd (none-some e read); small = λ j e read. absurd (none-some e read) }), tt);
         }
 
     made_is : make_step s n cap ≡ record { result = Ok tt; state = made_state s n cap }

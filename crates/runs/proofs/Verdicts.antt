@@ -162,7 +162,7 @@ module _ {E : Type 0} (says : E → Question → Option Light) (unsettled : Ligh
               (sym (ap (λ y. y.view) (bonded.same (t.place.number - 1) found.0 short found.1)) ∙ e)
 
   abbrev P : Stamp → Done Verdict E → Type 0
-  P t d = Sim d.state (tells s (Settle i t) (stepped Settled d).outcome d.state ++ h)
+  P t d = Sim d.state (tells s (Settle i t) (stepped Settled d).result d.state ++ h)
 
   pub sim_settle : (t : Stamp) → Sim (step says unsettled s (Settle i t)).state (told says unsettled h s (Settle i t))
   sim_settle t =

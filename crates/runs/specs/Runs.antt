@@ -1,5 +1,5 @@
 -- One step of a site, and a list of them. Assumes nothing.
-use Rattle.std.specs.Prelude.{cond, List, [], ◌∷◌, Ok, Err, Option, Result}
+use Rattle.std.specs.Prelude.{cond, List, [], ◌∷◌, Some, Ok, Err, Option, Result}
 use Rattle.numbers.specs.declared.views.ControllerNumber.{ControllerNumber}
 use Rattle.numbers.specs.declared.views.Stamp.{Stamp}
 use Rattle.numbers.specs.Views.{controller_of, stamp_ok}
@@ -11,28 +11,21 @@ use Rattle.controller.specs.declared.verdicts.Verdict.{Verdict}
 use Rattle.controller.specs.declared.verdicts.Verdict.TheVariants.{Confirmed, Lost, Waiting}
 use Rattle.controller.specs.Slips.{stamp_on}
 use Rattle.site.specs.declared.faults.Fault.{Fault}
-use Rattle.site.specs.States.{Done, State}
+use Rattle.site.specs.States.{Done, State, done}
 use Rattle.site.specs.Steps.{call_step, change_step, crash_step, deliver_step, form_step, invite_step, join_step, lookup_step, lose_step, pass_step, recover_step, refuse, settle_step}
 use Rattle.runs.specs.declared.steps.Outcome.{Outcome}
-use Rattle.runs.specs.declared.steps.Outcome.TheVariants.{Refused, Changed, Settled, Answered, Formed, Delivered, Done as Taken}
+use Rattle.runs.specs.declared.steps.Outcome.TheVariants.{Changed, Settled, Answered, Formed, Delivered, Done as Taken}
 use Rattle.runs.specs.declared.steps.Step.{Step}
 use Rattle.runs.specs.declared.steps.Step.TheVariants.{Change, Pass, Call, Invite, Form, Deliver, Join, Settle, Lookup, Crash, Recover, Lose}
 use Rattle.runs.specs.declared.steps.Turn.{Turn}
 
--- what a step gives: its outcome, and the state after it
-pub record Stepped (E : Type 0) : Type 0 where
-  pub outcome : Outcome E
-  pub state : State E
+-- what a call gave, as the outcome f of the step
+abbrev pub outcome_of : {A E : Type 0} → (A → Outcome E) → Result A Fault → Result (Outcome E) Fault
+outcome_of f (Ok x) = Ok (f x)
+outcome_of f (Err e) = Err e
 
-abbrev pub stepped_to : {E : Type 0} → Outcome E → State E → Stepped E
-stepped_to o s = record { outcome = o; state = s }
-
-abbrev pub outcome_of : {A E : Type 0} → (A → Outcome E) → Result A Fault → Outcome E
-outcome_of f (Ok x) = f x
-outcome_of f (Err e) = Refused e
-
-abbrev pub stepped : {A E : Type 0} → (A → Outcome E) → Done A E → Stepped E
-stepped f d = record { outcome = outcome_of f d.result; state = d.state }
+abbrev pub stepped : {A E : Type 0} → (A → Outcome E) → Done A E → Done (Outcome E) E
+stepped f d = done (outcome_of f d.result) d.state
 
 abbrev pub verdict_in : Settlement → Verdict
 verdict_in IsConfirmed = Confirmed
@@ -44,7 +37,8 @@ abbrev pub settle_numbers : {E : Type 0} → State E → ControllerNumber → St
 settle_numbers s i t = cond (stamp_ok t) (settle_step s i t) (refuse s (controller_of 0) 17)
 
 module _ {E : Type 0} (says : E → Question → Option Answer) (unsettled : Answer) where
-  abbrev pub step : State E → Step E → Stepped E
+  -- what a step gives: its outcome or a fault, and the state after it
+  abbrev pub step : State E → Step E → Done (Outcome E) E
   step s (Change i x) = stepped (λ slip. Changed (stamp_on slip)) (change_step s i x)
   step s (Pass i b k) = stepped (λ x. Taken) (pass_step s i b k)
   step s (Call i) = stepped (λ x. Taken) (call_step s i)
@@ -66,7 +60,7 @@ module _ {E : Type 0} (says : E → Question → Option Answer) (unsettled : Ans
   -- the turns with their outcomes
   abbrev pub played : State E → List (Turn E) → List (Turn E)
   played s [] = []
-  played s (t ∷ ts) = record { step = t.step; outcome = (step s t.step).outcome } ∷ played (step s t.step).state ts
+  played s (t ∷ ts) = record { step = t.step; outcome = Some (step s t.step).result } ∷ played (step s t.step).state ts
 
 -- the steps of a list of turns
 abbrev pub steps_of : {E : Type 0} → List (Turn E) → List (Step E)

@@ -6,5 +6,5 @@ use entries::Kind;
 // Of every list of steps from a made site: confirmed changes survive in every later view, stand in
 // one list, and are what later lookups are answered from.
 pub fn confirmed_changes_stand<E: Kind>()
-    ensures { EveryRun {E = E} E.says E.unsettled }
+    ensures { EveryRun {E = E} E.says E.UNSETTLED }
 {}

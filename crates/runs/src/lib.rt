@@ -2,7 +2,6 @@
 #![tactic(auto)]
 
 mod guarantees;
-mod outcomes;
 mod playing;
 mod steps;
 mod two_runs;

@@ -4,6 +4,7 @@ use entries::{Answer, Message, Question};
 use numbers::{ControllerNumber, Place, Stamp};
 use site::Fault;
 
+// An enum, and no list of closures: the guarantee is said over the list of steps, so they are values.
 #[derive(Clone, Copy)]
 pub enum Step<E> {
     Change {
@@ -52,12 +53,9 @@ pub enum Step<E> {
     },
 }
 
-// What came of a step.
+// What came of a step that was taken.
 #[derive(Clone, Copy)]
 pub enum Outcome<E> {
-    // the step was not run yet
-    Pending,
-    Refused { fault: Fault },
     // the stamp of the slip that was handed out
     Changed { stamp: Stamp },
     Settled { verdict: Verdict },
@@ -66,13 +64,13 @@ pub enum Outcome<E> {
     Formed { chosen: ControllerNumber },
     // the message that was taken
     Delivered { message: Message<E> },
-    // any other step that was taken
+    // any other step
     Done,
 }
 
-// One step of a list and what came of it.
+// One step of a list, and what came of it: nothing before it was run.
 #[derive(Clone, Copy)]
 pub struct Turn<E> {
     pub step: Step<E>,
-    pub outcome: Outcome<E>,
+    pub outcome: Option<Result<Outcome<E>, Fault>>,
 }

@@ -5,7 +5,7 @@ use crate::words::Words;
 use entries::{CardChange, HoursChange, Kind};
 
 pub trait Written: Kind {
-    // A change for memory that holds none yet.
+    // A change for memory that holds none yet; no `Default`, since no change is the usual one.
     fn blank() -> Self;
 
     // The change that the next words say.

@@ -5,12 +5,12 @@ use cabinet::{Strip, Tray};
 use entries::{CardChange, HoursChange};
 use kinds::Written;
 use orders::{KindName, Setup, Store};
-use script::Script;
+use script::{Script, text};
 use serving::{Desk, serve};
 use std::alloc::Global;
 use std::env;
 use std::fs::File;
-use std::io::{BufRead, BufReader, BufWriter, Write};
+use std::io::{BufRead, BufReader, BufWriter, Read, Write};
 use std::process::ExitCode;
 use troubles::Trouble;
 
@@ -23,19 +23,19 @@ mod report;
 mod script;
 mod serving;
 mod showing;
+mod spelling;
 mod statement;
 mod troubles;
 mod views;
 mod words;
 
 // The line that makes the site: the first that says anything.
-fn first_line<R: BufRead>(script: &mut Script<R>) -> Result<Setup, Trouble> {
-    for _ in 0..u64::MAX {
-        let more = script.advance()?;
-        match orders::read_setup(script.text()) {
+fn first_line<R: BufRead + Drop>(script: &mut Script<R>) -> Result<Setup, Trouble> {
+    for line in script.by_ref() {
+        match orders::read::<Setup>(text(line?.as_slice())) {
             Ok(Some(setup)) => return Ok(setup),
-            Ok(None) if more => {}
-            _ => break,
+            Ok(None) => {}
+            Err(_) => break,
         }
     }
     Err(Trouble::Line {
@@ -45,32 +45,31 @@ fn first_line<R: BufRead>(script: &mut Script<R>) -> Result<Setup, Trouble> {
 }
 
 // Serves a script of one kind of change, with the cabinet that its first line names.
-fn open<E: Written, R: BufRead, O: Write>(
+fn open<E: Written, R: BufRead + Drop, O: Write>(
     heap: Global,
     setup: Setup,
     script: &mut Script<R>,
     out: &mut O,
 ) -> Result<(), Trouble> {
-    let desk = Desk::<E>::new(heap, setup)?;
     match setup.store {
         Store::Tray { left } => {
             let mut tray = Tray::new([left; 7]);
-            serve(desk, &mut tray, script, out)
+            serve(Desk::<E, _, _>::new(heap, setup, &mut tray, out)?, script)
         }
         Store::Strip { bytes } => {
             let mut memory = vec![in heap; 0; bytes as usize]?;
             let mut strip = Strip::new(memory.as_mut_slice());
-            serve(desk, &mut strip, script, out)
+            serve(Desk::<E, _, _>::new(heap, setup, &mut strip, out)?, script)
         }
     }
 }
 
-fn work<R: BufRead + Drop, O: Write>(heap: Global, source: R, out: &mut O) -> Result<(), Trouble> {
-    let mut script = Script::new(source, heap);
+fn work<R: Read + Drop, O: Write>(heap: Global, source: R, out: &mut O) -> Result<(), Trouble> {
+    let mut script = Script::new(BufReader::new(heap, source)?, heap);
     let setup = first_line(&mut script)?;
     match setup.kind {
-        KindName::Cards => open::<CardChange, R, O>(heap, setup, &mut script, out),
-        KindName::Hours => open::<HoursChange, R, O>(heap, setup, &mut script, out),
+        KindName::Cards => open::<CardChange, _, _>(heap, setup, &mut script, out),
+        KindName::Hours => open::<HoursChange, _, _>(heap, setup, &mut script, out),
     }
 }
 
@@ -83,16 +82,8 @@ fn begin(rt: &HostRuntime) -> Result<(), Trouble> {
     }
     let mut out = BufWriter::new(rt.alloc(), rt.stdout())?;
     let done = match name {
-        Some(name) => work(
-            rt.alloc(),
-            BufReader::new(rt.alloc(), File::open(rt, name)?)?,
-            &mut out,
-        ),
-        None => work(
-            rt.alloc(),
-            BufReader::new(rt.alloc(), rt.stdin())?,
-            &mut out,
-        ),
+        Some(name) => work(rt.alloc(), File::open(rt, name)?, &mut out),
+        None => work(rt.alloc(), rt.stdin(), &mut out),
     };
     out.flush()?;
     done

@@ -1,34 +1,19 @@
-// Memory for the books and the pool of a site.
-ghost use Rattle.std.specs.Prelude.{◌≡◌, replicate, IfOk};
-
+// What stands in the books and the pool of a site before anything of use.
 use crate::kinds::Written;
 use entries::{Body, Entry, Message};
-use numbers::{CellRecord, ControllerNumber};
-use std::alloc::{AllocError, Global};
-
-// So many times the same.
-pub fn filled<T: Copy>(heap: Global, x: T, n: usize) -> Result<Vec<T>, AllocError>
-    ensures { IfOk result (λ v. v.items ≡ replicate n x) }
-{
-    let mut all = Vec::with_capacity(heap, n)?;
-    for _i in 0..n {
-        all.push(x)?;
-    }
-    Ok(all)
-}
+use numbers::{ControllerNumber, View};
 
 // An entry and a message for memory that holds nothing of use yet.
 pub fn blanks<E: Written>() -> (Entry<E>, Message<E>) {
-    let view = CellRecord::zero().row().current;
     let nobody = ControllerNumber { number: 0 };
     let entry = Entry {
-        view,
+        view: View::ZERO,
         change: E::blank(),
     };
     let message = Message {
         sender: nobody,
         addressee: nobody,
-        view,
+        view: View::ZERO,
         body: Body::Invitation,
     };
     (entry, message)

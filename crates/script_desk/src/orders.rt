@@ -62,141 +62,122 @@ fn read_store(words: &mut Words) -> Option<Store> {
     }
 }
 
-// The site's sizes and memory, by the words after `site`.
-fn setup_after(words: &mut Words) -> Option<Setup> {
-    Some(Setup {
-        kind: read_kind(words)?,
-        n: words.number()?,
-        cap: words.number()?,
-        room: words.number()?,
-        store: read_store(words)?,
+// A step of one controller, by its word and the words after it.
+// A `match`, since a table of the words would hold function pointers and be no shorter.
+fn controller_step<E: Written>(word: &str, words: &mut Words) -> Option<Step<E>> {
+    let i = words.controller()?;
+    Some(match word {
+        "change" => Step::Change {
+            i,
+            x: E::read(words)?,
+        },
+        "pass" => Step::Pass {
+            i,
+            to: words.controller()?,
+            place: words.place()?,
+        },
+        "call" => Step::Call { i },
+        "invite" => Step::Invite {
+            i,
+            to: words.controller()?,
+        },
+        "form" => Step::Form { i },
+        "join" => Step::Join {
+            i,
+            primary: words.controller()?,
+        },
+        "settle" => Step::Settle {
+            i,
+            stamp: words.stamp()?,
+        },
+        "lookup" => Step::Lookup {
+            i,
+            question: words.question()?,
+        },
+        "crash" => Step::Crash { i },
+        "recover" => Step::Recover { i },
+        _ => return None,
     })
 }
 
-// A step that reads or writes a book, by its word and the words after it.
-fn book_step<E: Written>(word: &str, words: &mut Words) -> Option<Step<E>> {
-    match word {
-        "change" => Some(Step::Change {
-            i: words.controller()?,
-            x: E::read(words)?,
-        }),
-        "pass" => Some(Step::Pass {
-            i: words.controller()?,
-            to: words.controller()?,
-            place: words.place()?,
-        }),
-        "settle" => Some(Step::Settle {
-            i: words.controller()?,
-            stamp: words.stamp()?,
-        }),
-        "lookup" => Some(Step::Lookup {
-            i: words.controller()?,
-            question: words.question()?,
-        }),
-        _ => None,
-    }
-}
+// What a line may say.
+pub trait Said: Drop + Sized {
+    // What it says by its first word and those after it.
+    fn after(word: &str, words: &mut Words) -> Option<Self>;
 
-// A step of a view change.
-fn view_step<E: Written>(word: &str, words: &mut Words) -> Option<Step<E>> {
-    match word {
-        "call" => Some(Step::Call {
-            i: words.controller()?,
-        }),
-        "invite" => Some(Step::Invite {
-            i: words.controller()?,
-            to: words.controller()?,
-        }),
-        "form" => Some(Step::Form {
-            i: words.controller()?,
-        }),
-        "join" => Some(Step::Join {
-            i: words.controller()?,
-            primary: words.controller()?,
-        }),
-        _ => None,
-    }
-}
-
-// A step of the network or the power.
-fn world_step<E: Written>(word: &str, words: &mut Words) -> Option<Step<E>> {
-    match word {
-        "deliver" => Some(Step::Deliver {
-            message: words.number()?,
-        }),
-        "lose" => Some(Step::Lose {
-            message: words.number()?,
-        }),
-        "crash" => Some(Step::Crash {
-            i: words.controller()?,
-        }),
-        "recover" => Some(Step::Recover {
-            i: words.controller()?,
-        }),
-        _ => None,
-    }
-}
-
-// The order of a line, by its first word and those after it.
-fn order_after<E: Written>(word: &str, words: &mut Words) -> Option<Order<E>> {
-    let step = match word {
-        "show" => return Some(Order::Show),
-        "change" | "pass" | "settle" | "lookup" => book_step(word, words)?,
-        "call" | "invite" | "form" | "join" => view_step(word, words)?,
-        _ => world_step(word, words)?,
-    };
-    Some(Order::Step { step })
-}
-
-// The line that a first word begins.
-fn form_of<E: Written>(word: &str) -> Expected {
-    match word {
-        "change" => E::form(),
-        "pass" => "pass I B K, with numbers from 0 to 65535",
-        "call" => "call I, with a number from 0 to 65535",
-        "invite" => "invite I B, with numbers from 0 to 65535",
-        "form" => "form I, with a number from 0 to 65535",
-        "deliver" => "deliver J, with a number from 0 to 65535",
-        "join" => "join I P, with numbers from 0 to 65535",
-        "settle" => "settle I COUNT CONTROLLER PLACE, with numbers from 0 to 65535",
-        "lookup" => "lookup I A B, with numbers from 0 to 65535",
-        "crash" => "crash I, with a number from 0 to 65535",
-        "recover" => "recover I, with a number from 0 to 65535",
-        "lose" => "lose J, with a number from 0 to 65535",
-        "show" => "show, with nothing after it",
-        _ => STEP,
-    }
+    // The line that a first word begins.
+    fn form(word: &str) -> Expected;
 }
 
 // The first line that says something.
-pub fn read_setup(text: Option<&str>) -> Result<Option<Setup>, Expected> {
-    let Some(text) = text else {
-        return Err(SITE);
-    };
-    let mut words = Words::of(text);
-    let Some(word) = words.word() else {
-        return Ok(None);
-    };
-    if word != "site" {
-        return Err(SITE);
+impl Said for Setup {
+    fn after(word: &str, words: &mut Words) -> Option<Setup> {
+        if word != "site" {
+            return None;
+        }
+        Some(Setup {
+            kind: read_kind(words)?,
+            n: words.number()?,
+            cap: words.number()?,
+            room: words.number()?,
+            store: read_store(words)?,
+        })
     }
-    match setup_after(&mut words) {
-        Some(setup) if words.is_done() => Ok(Some(setup)),
-        _ => Err(SITE),
+
+    fn form(_word: &str) -> Expected {
+        SITE
     }
 }
 
 // Any later line.
-pub fn read_order<E: Written>(text: Option<&str>) -> Result<Option<Order<E>>, Expected> {
+impl<E: Written> Said for Order<E> {
+    fn after(word: &str, words: &mut Words) -> Option<Order<E>> {
+        let step = match word {
+            "show" => return Some(Order::Show),
+            "deliver" => Step::Deliver {
+                message: words.number()?,
+            },
+            "lose" => Step::Lose {
+                message: words.number()?,
+            },
+            _ => controller_step(word, words)?,
+        };
+        Some(Order::Step { step })
+    }
+
+    // a `match`, as in `controller_step`
+    fn form(word: &str) -> Expected {
+        match word {
+            "change" => E::form(),
+            "pass" => "pass I B K, with numbers from 0 to 65535",
+            "call" => "call I, with a number from 0 to 65535",
+            "invite" => "invite I B, with numbers from 0 to 65535",
+            "form" => "form I, with a number from 0 to 65535",
+            "deliver" => "deliver J, with a number from 0 to 65535",
+            "join" => "join I P, with numbers from 0 to 65535",
+            "settle" => "settle I COUNT CONTROLLER PLACE, with numbers from 0 to 65535",
+            "lookup" => "lookup I A B, with numbers from 0 to 65535",
+            "crash" => "crash I, with a number from 0 to 65535",
+            "recover" => "recover I, with a number from 0 to 65535",
+            "lose" => "lose J, with a number from 0 to 65535",
+            "show" => "show, with nothing after it",
+            _ => STEP,
+        }
+    }
+}
+
+// What a line says, by all of its words; none where it has no word. One that is no text has no first
+// word that anybody knows.
+pub fn read<T: Said>(text: Option<&str>) -> Result<Option<T>, Expected> {
     let Some(text) = text else {
-        return Err(STEP);
+        return Err(T::form(""));
     };
-    let mut words = Words::of(text);
+    let mut words = Words::new(text);
     let Some(word) = words.word() else {
         return Ok(None);
     };
-    match order_after(word, &mut words) {
-        Some(order) if words.is_done() => Ok(Some(order)),
-        _ => Err(form_of::<E>(word)),
+    match T::after(word, &mut words) {
+        Some(said) if words.is_done() => Ok(Some(said)),
+        _ => Err(T::form(word)),
     }
 }

@@ -1,9 +1,8 @@
 // What came of a step, as a line of the report.
+use crate::spelling::Spelled;
 use crate::views::Dotted;
-use controller::Verdict;
-use entries::{Answer, Body, Reply};
 use numbers::{ControllerNumber, Stamp};
-use runs::{Outcome, Step, Turn};
+use runs::{Outcome, Turn};
 use site::{Fault, Named};
 use std::fmt;
 
@@ -27,80 +26,31 @@ pub enum Line {
     },
 }
 
-// The word that a line with the step begins with.
-fn word_of<E: Copy>(step: Step<E>) -> &'static str {
-    match step {
-        Step::Change { .. } => "change",
-        Step::Pass { .. } => "pass",
-        Step::Call { .. } => "call",
-        Step::Invite { .. } => "invite",
-        Step::Form { .. } => "form",
-        Step::Deliver { .. } => "deliver",
-        Step::Join { .. } => "join",
-        Step::Settle { .. } => "settle",
-        Step::Lookup { .. } => "lookup",
-        Step::Crash { .. } => "crash",
-        Step::Recover { .. } => "recover",
-        Step::Lose { .. } => "lose",
-    }
-}
-
-// The kind of a message.
-pub fn kind_of<E: Copy>(body: Body<E>) -> &'static str {
-    match body {
-        Body::Invitation => "invitation",
-        Body::Answer {
-            reply: Reply::Normal { .. },
-        } => "normal",
-        Body::Answer {
-            reply: Reply::Crash { .. },
-        } => "crash",
-        Body::Form => "form",
-        Body::Entry { .. } => "entry",
-        Body::Acknowledgement { .. } => "acknowledgement",
-    }
-}
-
-fn verdict_word(verdict: Verdict) -> &'static str {
-    match verdict {
-        Verdict::Confirmed => "confirmed",
-        Verdict::Lost => "lost",
-        Verdict::Waiting => "waiting",
-    }
-}
-
-pub fn answer_word(answer: Answer) -> &'static str {
-    match answer {
-        Answer::Green => "green",
-        Answer::Red => "red",
-    }
-}
-
-impl Line {
-    // The line of a turn that was run.
-    pub fn of<E: Copy>(turn: Turn<E>) -> Line {
-        let word = word_of(turn.step);
+// The line of a turn that was run.
+impl<E: Copy> From<Turn<E>> for Line {
+    fn from(turn: Turn<E>) -> Line {
+        let word = turn.step.word();
         match turn.outcome {
-            Outcome::Pending => Line::Taken {
+            None => Line::Taken {
                 word,
                 how: "not run",
             },
-            Outcome::Refused { fault } => Line::Refused { word, fault },
-            Outcome::Changed { stamp } => Line::Changed { stamp },
-            Outcome::Settled { verdict } => Line::Taken {
+            Some(Err(fault)) => Line::Refused { word, fault },
+            Some(Ok(Outcome::Changed { stamp })) => Line::Changed { stamp },
+            Some(Ok(Outcome::Settled { verdict })) => Line::Taken {
                 word,
-                how: verdict_word(verdict),
+                how: verdict.word(),
             },
-            Outcome::Answered { answer } => Line::Taken {
+            Some(Ok(Outcome::Answered { answer })) => Line::Taken {
                 word,
-                how: answer_word(answer),
+                how: answer.word(),
             },
-            Outcome::Formed { chosen } => Line::Formed { chosen },
-            Outcome::Delivered { message } => Line::Taken {
+            Some(Ok(Outcome::Formed { chosen })) => Line::Formed { chosen },
+            Some(Ok(Outcome::Delivered { message })) => Line::Taken {
                 word,
-                how: kind_of(message.body),
+                how: message.body.word(),
             },
-            Outcome::Done => Line::Taken { word, how: "ok" },
+            Some(Ok(Outcome::Done)) => Line::Taken { word, how: "ok" },
         }
     }
 }
@@ -125,7 +75,7 @@ impl fmt::Display for Line {
 }
 
 fn show_refusal<W: fmt::Write>(f: &mut fmt::Formatter<W>, word: &str, fault: Fault) -> fmt::Result {
-    let question = fault.refusal.number();
+    let question = u8::from(fault.refusal);
     match fault.named {
         Named::Cell { cell, controller } => {
             let number = controller.number;

@@ -1,56 +1,50 @@
 // The lines of a script, counted, without their ends and comments.
+ghost use Rattle.std.specs.Io.Iter.{pieces_left_to_read};
+ghost use Rattle.std.specs.Iterator.{at_most};
+
 use std::alloc::Global;
 use std::io;
-use std::io::BufRead;
+use std::io::{BufRead, Split};
 
 #[derive(Drop)]
 pub struct Script<R> {
-    source: R,
-    line: Vec<u8>,
+    lines: Split<R>,
     number: u64,
 }
 
-// What stands before the first '#'.
-fn before_comment(line: &[u8]) -> &[u8] {
-    for (i, b) in line.iter().enumerate() {
-        if *b == b'#' {
-            return &line[0..i];
-        }
-    }
-    line
-}
-
-// A line without its end and its comment.
-fn written(line: &[u8]) -> &[u8] {
-    let line = line.strip_suffix(b"\n").unwrap_or(line);
-    let line = line.strip_suffix(b"\r").unwrap_or(line);
-    before_comment(line)
-}
-
-impl<R: BufRead> Script<R> {
+impl<R: BufRead + Drop> Script<R> {
     pub fn new(source: R, heap: Global) -> Script<R> {
         Script {
-            source,
-            line: Vec::new(heap),
+            lines: source.split(heap, b'\n'),
             number: 0,
         }
     }
 
-    // Goes on to the next line. The end of the script, where it is false, counts as a line too.
-    pub fn advance(&mut self) -> io::Result<bool> {
-        self.line.clear();
-        self.number = self.number.saturating_add(1);
-        let read = self.source.read_until(b'\n', &mut self.line)?;
-        Ok(read > 0)
-    }
-
-    // The number of the line, from 1.
+    // The number of the last line, from 1. The end of the script counts as a line too.
     pub fn number(&self) -> u64 {
         self.number
     }
+}
 
-    // What is written on the line; none where that is no text.
-    pub fn text(&self) -> Option<&str> {
-        std::str::from_utf8(written(self.line.as_slice())).ok()
+impl<R: BufRead + Drop> Iterator for Script<R> {
+    type Item = io::Result<Vec<u8>>;
+
+    ghost remaining = { λ s. at_most (pieces_left_to_read s.lines) };
+
+    fn next(&mut self) -> Option<io::Result<Vec<u8>>> {
+        self.number = self.number.saturating_add(1);
+        self.lines.next()
     }
+}
+
+// What stands before the first '#'.
+fn before_comment(line: &[u8]) -> &[u8] {
+    line.split(|b| *b == b'#').next().unwrap_or(line)
+}
+
+// What is written on a line, without a carriage return at its end and its comment; none where that
+// is no text.
+pub fn text(line: &[u8]) -> Option<&str> {
+    let line = line.strip_suffix(b"\r").unwrap_or(line);
+    std::str::from_utf8(before_comment(line)).ok()
 }

@@ -1,16 +1,16 @@
 // Serving a script: its steps are gathered, run a buffer at a time, and reported.
 use crate::cabinets::Shown;
 use crate::kinds::Written;
-use crate::memory::{blanks, filled};
+use crate::memory::blanks;
 use crate::orders;
 use crate::orders::{Order, Setup};
 use crate::report::Line;
-use crate::script::Script;
+use crate::script::{Script, text};
 use crate::showing::show;
 use crate::statement::Statement;
 use crate::troubles::Trouble;
 use entries::{Entry, Message};
-use runs::{Outcome, Step, Turn, resume, run};
+use runs::{Step, Turn, resume, run};
 use site::{Fault, Site};
 use std::alloc::{AllocError, Global};
 use std::io::{BufRead, Write};
@@ -18,11 +18,13 @@ use std::io::{BufRead, Write};
 // So many steps are gathered before they are run.
 const BUFFER: usize = 1_024;
 
-// A site with its memory, and the steps that are not run yet.
+// A site with its memory and cabinet, the steps that are not run yet, and where reports go.
 #[derive(Drop)]
-pub struct Desk<E> {
+pub struct Desk<'a, E, C, O> {
     setup: Setup,
     site: Site,
+    cab: &'a mut C,
+    out: &'a mut O,
     books: Vec<Entry<E>>,
     pool: Vec<Message<E>>,
     turns: Vec<Turn<E>>,
@@ -40,27 +42,34 @@ fn report_turns<E: Written, O: Write>(
     out: &mut O,
 ) -> Result<(), Trouble> {
     for turn in turns {
-        let line = Line::of(*turn);
+        let line = Line::from(*turn);
         writeln!(out, "{line}")?;
         statement.note(*turn)?;
     }
     Ok(())
 }
 
-impl<E: Written> Desk<E> {
+impl<'a, E: Written, C: Shown, O: Write> Desk<'a, E, C, O> {
     // A site that is refused whatever its memory gets none.
-    pub fn new(heap: Global, setup: Setup) -> Result<Desk<E>, AllocError> {
+    pub fn new(
+        heap: Global,
+        setup: Setup,
+        cab: &'a mut C,
+        out: &'a mut O,
+    ) -> Result<Desk<'a, E, C, O>, AllocError> {
         let (entry, message) = blanks::<E>();
         let (entries, messages) = if setup.n > 7 || setup.room > 4_096 {
             (0, 0)
         } else {
             (setup.n as usize * setup.cap as usize, setup.room as usize)
         };
-        let books = filled(heap, entry, entries)?;
-        let pool = filled(heap, message, messages)?;
+        let books = vec![in heap; entry; entries]?;
+        let pool = vec![in heap; message; messages]?;
         Ok(Desk {
             setup,
             site: Site::new(),
+            cab,
+            out,
             books,
             pool,
             turns: Vec::new(heap),
@@ -71,10 +80,10 @@ impl<E: Written> Desk<E> {
     }
 
     // Makes the site, and runs the steps gathered so far on it.
-    fn begin<C: Shown>(&mut self, cab: &mut C) -> Result<(), Fault> {
+    fn begin(&mut self) -> Result<(), Fault> {
         run(
             &mut self.site,
-            cab,
+            self.cab,
             self.books.as_mut_slice(),
             self.pool.as_mut_slice(),
             self.setup.n,
@@ -83,10 +92,10 @@ impl<E: Written> Desk<E> {
         )
     }
 
-    fn go_on<C: Shown>(&mut self, cab: &mut C) {
+    fn go_on(&mut self) {
         resume(
             &mut self.site,
-            cab,
+            self.cab,
             self.books.as_mut_slice(),
             self.pool.as_mut_slice(),
             self.turns.as_mut_slice(),
@@ -94,16 +103,16 @@ impl<E: Written> Desk<E> {
     }
 
     // Runs the steps gathered so far; before the first ones the site is made. Says how make went.
-    fn play<C: Shown>(&mut self, cab: &mut C) -> Option<Line> {
+    fn play(&mut self) -> Option<Line> {
         if self.is_begun {
-            self.go_on(cab);
+            self.go_on();
             return None;
         }
         self.is_begun = true;
-        match self.begin(cab) {
+        match self.begin() {
             Ok(()) => Some(Line::Made),
             Err(fault) => {
-                self.go_on(cab);
+                self.go_on();
                 Some(Line::Refused {
                     word: "site",
                     fault,
@@ -113,63 +122,59 @@ impl<E: Written> Desk<E> {
     }
 
     // Runs the steps gathered so far, and reports them.
-    fn clear<C: Shown, O: Write>(&mut self, cab: &mut C, out: &mut O) -> Result<(), Trouble> {
-        if let Some(line) = self.play(cab) {
-            writeln!(out, "{line}")?;
+    fn clear(&mut self) -> Result<(), Trouble> {
+        if let Some(line) = self.play() {
+            writeln!(self.out, "{line}")?;
         }
-        report_turns(self.turns.as_slice(), &mut self.statement, out)?;
+        report_turns(self.turns.as_slice(), &mut self.statement, self.out)?;
         self.turns.clear();
         Ok(())
     }
 
-    fn add<C: Shown, O: Write>(
-        &mut self,
-        cab: &mut C,
-        out: &mut O,
-        step: Step<E>,
-    ) -> Result<(), Trouble> {
+    fn add(&mut self, step: Step<E>) -> Result<(), Trouble> {
         self.is_used = true;
         self.turns.push(Turn {
             step,
-            outcome: Outcome::Pending,
+            outcome: None,
         })?;
         if self.turns.len() >= BUFFER {
-            self.clear(cab, out)?;
+            self.clear()?;
         }
         Ok(())
     }
 
-    fn show<C: Shown, O: Write>(&mut self, cab: &mut C, out: &mut O) -> Result<(), Trouble> {
+    fn show(&mut self) -> Result<(), Trouble> {
         self.is_used = true;
-        self.clear(cab, out)?;
+        self.clear()?;
         show(
-            out,
+            self.out,
             &self.site,
-            cab,
+            self.cab,
             self.books.as_slice(),
             self.pool.as_slice(),
         )?;
         Ok(())
     }
+
+    // States what happened.
+    fn tell(&mut self) -> Result<(), Trouble> {
+        self.statement.tell(self.out, &self.site)?;
+        Ok(())
+    }
 }
 
 // Runs the lines that follow the site's, and states what happened.
-pub fn serve<E: Written, C: Shown, R: BufRead, O: Write>(
-    mut desk: Desk<E>,
-    cab: &mut C,
+pub fn serve<E: Written, C: Shown, R: BufRead + Drop, O: Write>(
+    mut desk: Desk<E, C, O>,
     script: &mut Script<R>,
-    out: &mut O,
 ) -> Result<(), Trouble> {
-    for _ in 0..u64::MAX {
-        if !script.advance()? {
-            break;
-        }
-        match orders::read_order::<E>(script.text()) {
+    for line in script.by_ref() {
+        match orders::read::<Order<E>>(text(line?.as_slice())) {
             Ok(None) => {}
-            Ok(Some(Order::Show)) => desk.show(cab, out)?,
-            Ok(Some(Order::Step { step })) => desk.add(cab, out, step)?,
+            Ok(Some(Order::Show)) => desk.show()?,
+            Ok(Some(Order::Step { step })) => desk.add(step)?,
             Err(expected) => {
-                desk.clear(cab, out)?;
+                desk.clear()?;
                 return Err(Trouble::Line {
                     number: script.number(),
                     expected,
@@ -177,13 +182,12 @@ pub fn serve<E: Written, C: Shown, R: BufRead, O: Write>(
             }
         }
     }
-    desk.clear(cab, out)?;
+    desk.clear()?;
     if !desk.is_used {
         return Err(Trouble::Line {
             number: script.number(),
             expected: orders::STEP,
         });
     }
-    desk.statement.tell(out, &desk.site)?;
-    Ok(())
+    desk.tell()
 }

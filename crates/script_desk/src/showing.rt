@@ -1,7 +1,7 @@
 // The whole state of a site, a line for each record, cell, entry and message.
 use crate::cabinets::Shown;
 use crate::kinds::Written;
-use crate::report::kind_of;
+use crate::spelling::Spelled;
 use crate::views::Dotted;
 use cabinet::Cabinet;
 use controller::{Controller, Status};
@@ -19,77 +19,55 @@ struct Ranked {
     record: Controller,
 }
 
-// One acknowledged length or none.
+// What is there, or a dash.
 #[derive(Clone, Copy)]
-struct Length(Option<u16>);
+struct OrDash<T>(Option<T>);
 
-// One answer or none.
+// One answer.
 #[derive(Clone, Copy)]
-struct Answered(Option<Reply>);
+struct Answered(Reply);
 
-impl fmt::Display for Length {
+impl<T: fmt::Display> fmt::Display for OrDash<T> {
     fn fmt<W: fmt::Write>(&self, f: &mut fmt::Formatter<W>) -> fmt::Result {
-        match self.0 {
+        match &self.0 {
             None => write!(f, "-"),
-            Some(length) => write!(f, "{length}"),
+            Some(x) => write!(f, "{x}"),
         }
     }
 }
 
 impl fmt::Display for Answered {
     fn fmt<W: fmt::Write>(&self, f: &mut fmt::Formatter<W>) -> fmt::Result {
+        let word = self.0.word();
         match self.0 {
-            None => write!(f, "-"),
-            Some(
-                Reply::Normal {
-                    current,
-                    length,
-                    primary,
-                },
-            ) => {
+            Reply::Normal {
+                current,
+                length,
+                primary,
+            } => {
                 let view = Dotted(current);
                 let leads = u8::from(primary);
-                write!(f, "normal:{view}:{length}:{leads}")
+                write!(f, "{word}:{view}:{length}:{leads}")
             }
-            Some(Reply::Crash { current }) => {
+            Reply::Crash { current } => {
                 let view = Dotted(current);
-                write!(f, "crash:{view}")
+                write!(f, "{word}:{view}")
             }
         }
     }
 }
 
-fn status_word(status: Status) -> &'static str {
-    match status {
-        Status::Down => "down",
-        Status::Waiting => "waiting",
-        Status::Manager { .. } => "manager",
-        Status::Backup | Status::Primary { .. } => "active",
-    }
-}
-
-fn show_lengths<W: fmt::Write>(
+// The first n of a table of seven, after its name.
+fn show_table<W: fmt::Write, T: fmt::Display + Copy>(
     f: &mut fmt::Formatter<W>,
+    name: &str,
     n: u16,
-    lengths: [Option<u16>; 7],
+    table: [Option<T>; 7],
 ) -> fmt::Result {
-    write!(f, " lengths")?;
-    for length in lengths.iter().take(n as usize) {
-        let length = Length(*length);
-        write!(f, " {length}")?;
-    }
-    Ok(())
-}
-
-fn show_answers<W: fmt::Write>(
-    f: &mut fmt::Formatter<W>,
-    n: u16,
-    answers: [Option<Reply>; 7],
-) -> fmt::Result {
-    write!(f, " answers")?;
-    for answer in answers.iter().take(n as usize) {
-        let answer = Answered(*answer);
-        write!(f, " {answer}")?;
+    write!(f, " {name}")?;
+    for slot in table.iter().take(n as usize) {
+        let slot = OrDash(*slot);
+        write!(f, " {slot}")?;
     }
     Ok(())
 }
@@ -104,7 +82,7 @@ impl fmt::Display for Ranked {
             primary: ControllerNumber { number: primary },
         } = self.record;
         let number = self.number;
-        let word = status_word(status);
+        let word = status.word();
         let current = Dotted(views.current);
         let promised = Dotted(views.promised);
         let whole = if complete { "complete" } else { "incomplete" };
@@ -113,8 +91,11 @@ impl fmt::Display for Ranked {
             "controller {number} {word} current {current} promised {promised} {whole} length {length} primary {primary}"
         )?;
         match status {
-            Status::Primary { lengths } => show_lengths(f, self.n, lengths),
-            Status::Manager { answers } => show_answers(f, self.n, answers),
+            Status::Primary { lengths } => show_table(f, "lengths", self.n, lengths),
+            Status::Manager { answers } => {
+                let answers = answers.map(|answer| answer.map(Answered));
+                show_table(f, "answers", self.n, answers)
+            }
             Status::Down | Status::Waiting | Status::Backup => Ok(()),
         }
     }
@@ -209,7 +190,7 @@ fn show_pool<O: Write, E: Written>(
     pool: &[Message<E>],
 ) -> io::Result<()> {
     for (j, message) in pool.iter().take(site.count() as usize).enumerate() {
-        let kind = kind_of(message.body);
+        let kind = message.body.word();
         let sender = message.sender.number;
         let addressee = message.addressee.number;
         let view = Dotted(message.view);

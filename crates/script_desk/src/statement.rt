@@ -1,7 +1,7 @@
 // What the steps of a script amount to.
 use crate::fates::Fates;
 use entries::{Answer, Body, Message, Question};
-use numbers::{CellRecord, ControllerNumber, View};
+use numbers::{ControllerNumber, View};
 use runs::{Outcome, Step, Turn};
 use std::alloc::{AllocError, Global};
 
@@ -22,6 +22,15 @@ struct Heard {
     view: View,
 }
 
+// What is known of one controller.
+#[derive(Clone, Copy)]
+struct Known {
+    // the view that it has entered last
+    view: View,
+    // the last lookup at it
+    heard: Option<Heard>,
+}
+
 // What the steps so far amount to.
 #[derive(Drop)]
 pub struct Statement {
@@ -29,10 +38,7 @@ pub struct Statement {
     refused: u64,
     fates: Fates,
     opened: Vec<Opening>,
-    // the view that each controller has entered last
-    views: [View; 7],
-    // the last lookup at each controller
-    heard: [Option<Heard>; 7],
+    known: [Known; 7],
 }
 
 impl Statement {
@@ -42,38 +48,32 @@ impl Statement {
             refused: 0,
             fates: Fates::new(heap),
             opened: Vec::new(heap),
-            views: [CellRecord::zero().row().current; 7],
-            heard: [None; 7],
+            known: [Known {
+                view: View::ZERO,
+                heard: None,
+            }; 7],
         }
     }
 
-    // The view that a controller is in, if it is in one.
-    fn view_of(&self, i: ControllerNumber) -> Option<View> {
-        self.views.get(i.number as usize).copied()
-    }
-
     fn enter(&mut self, i: ControllerNumber, view: View) {
-        if let Some(current) = self.views.get_mut(i.number as usize) {
-            *current = view;
+        if let Some(known) = self.known.get_mut(i.number as usize) {
+            known.view = view;
         }
     }
 
     // A controller that joins enters the view of the primary.
     fn follow(&mut self, i: ControllerNumber, primary: ControllerNumber) {
-        if let Some(view) = self.view_of(primary) {
-            self.enter(i, view);
+        if let Some(leader) = self.known.get(primary.number as usize).copied() {
+            self.enter(i, leader.view);
         }
     }
 
     fn hear(&mut self, i: ControllerNumber, question: Question, answer: Answer) {
-        let Some(view) = self.view_of(i) else {
-            return;
-        };
-        if let Some(last) = self.heard.get_mut(i.number as usize) {
-            *last = Some(Heard {
+        if let Some(known) = self.known.get_mut(i.number as usize) {
+            known.heard = Some(Heard {
                 question,
                 answer,
-                view,
+                view: known.view,
             });
         }
     }
@@ -89,27 +89,19 @@ impl Statement {
         Ok(())
     }
 
-    // A step was taken.
-    fn count<E: Copy>(&mut self, turn: Turn<E>) -> Result<(), AllocError> {
+    // A step was taken, and that came of it.
+    fn count<E: Copy>(&mut self, step: Step<E>, outcome: Outcome<E>) -> Result<(), AllocError> {
         self.taken = self.taken.saturating_add(1);
-        match turn.outcome {
-            Outcome::Changed { stamp } => self.fates.hand_out(stamp)?,
-            Outcome::Delivered { message } => self.take(message)?,
-            Outcome::Settled { verdict } => {
-                if let Step::Settle { stamp, .. } = turn.step {
-                    self.fates.settle(stamp, verdict);
-                }
+        match (step, outcome) {
+            (_, Outcome::Changed { stamp }) => self.fates.hand_out(stamp)?,
+            (_, Outcome::Delivered { message }) => self.take(message)?,
+            (Step::Settle { stamp, .. }, Outcome::Settled { verdict }) => {
+                self.fates.settle(stamp, verdict);
             }
-            Outcome::Answered { answer } => {
-                if let Step::Lookup { i, question } = turn.step {
-                    self.hear(i, question, answer);
-                }
+            (Step::Lookup { i, question }, Outcome::Answered { answer }) => {
+                self.hear(i, question, answer);
             }
-            Outcome::Done => {
-                if let Step::Join { i, primary } = turn.step {
-                    self.follow(i, primary);
-                }
-            }
+            (Step::Join { i, primary }, Outcome::Done) => self.follow(i, primary),
             _ => {}
         }
         Ok(())
@@ -117,10 +109,14 @@ impl Statement {
 
     // One more step was run.
     pub fn note<E: Copy>(&mut self, turn: Turn<E>) -> Result<(), AllocError> {
-        if let Outcome::Refused { .. } = turn.outcome {
-            self.refused = self.refused.saturating_add(1);
-            return Ok(());
+        let Turn { step, outcome } = turn;
+        match outcome {
+            Some(Ok(outcome)) => self.count(step, outcome),
+            Some(Err(_)) => {
+                self.refused = self.refused.saturating_add(1);
+                Ok(())
+            }
+            None => Ok(()),
         }
-        self.count(turn)
     }
 }

@@ -3,41 +3,41 @@ ghost use Rattle.script_desk.specs.Digits.{Reads};
 
 use entries::Question;
 use numbers::{ControllerNumber, Place, Stamp, View, ViewCount};
+use std::str::Split;
 
 // The words of a line that are not read yet. Spaces and tabs part them.
 #[derive(Drop)]
 pub struct Words<'a> {
-    rest: &'a str,
+    pieces: Split<'a, [char; 2]>,
 }
 
 // A number is plain digits, up to 65,535.
 fn number_of(word: &str) -> Option<u16>
     ensures { Reads word.now result }
 {
-    let bytes = word.as_bytes();
-    if bytes.len() > 0 && bytes[0] == b'+' {
+    if word.starts_with('+') {
         return None;
     }
     word.parse::<u16>().ok()
 }
 
 impl<'a> Words<'a> {
-    pub fn of(text: &'a str) -> Words<'a> {
-        Words { rest: text }
+    pub fn new(text: &'a str) -> Words<'a> {
+        Words {
+            pieces: text.split([' ', '\t']),
+        }
     }
 
     // The next word; none where all are read.
     pub fn word(&mut self) -> Option<&'a str> {
-        let text = self.rest.trim_start_matches([' ', '\t']);
-        let (word, rest) = text.split_once([' ', '\t']).unwrap_or((text, ""));
-        self.rest = rest;
-        if word.is_empty() { None } else { Some(word) }
+        self.pieces.find(|piece| !piece.is_empty())
     }
 
     pub fn number(&mut self) -> Option<u16> {
         number_of(self.word()?)
     }
 
+    // Any number, as at a place: `try_from` would refuse those out of range, which is for the step to do.
     pub fn controller(&mut self) -> Option<ControllerNumber> {
         let number = self.number()?;
         Some(ControllerNumber { number })

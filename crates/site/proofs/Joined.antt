@@ -1,5 +1,5 @@
 -- A join that is refused leaves all as it was; one that is taken copies the book, and had room. Assumes nothing.
-use Rattle.std.proofs.Common.{◌≡◌, ℕ, ◌+◌, ◌-◌, ◌*◌, Bool, true, false, cond, leb, List, [], ◌∷◌, length, get_or, take, drop, Ok, Err, Result, sym, refl, ap, ◌∙◌, rules}
+use Rattle.std.proofs.Common.{◌≡◌, ℕ, ◌-◌, Bool, true, false, cond, leb, List, [], ◌∷◌, length, get_or, take, drop, Ok, Err, Result, sym, refl, ap, ◌∙◌, rules}
 use Rattle.numbers.specs.declared.rows.Row.{Row}
 use Rattle.numbers.specs.declared.views.ControllerNumber.{ControllerNumber}
 use Rattle.numbers.specs.declared.views.View.{View}
@@ -18,10 +18,11 @@ use Rattle.controller.specs.Records.{down_record}
 use Rattle.controller.specs.ViewChanges.{if_put, put_after, put_result}
 use Rattle.site.specs.declared.records.Site.{Site}
 use Rattle.site.specs.Faults.{site_fault}
-use Rattle.site.specs.States.{IsPair, State, done, has_room, part, put_all, row_of, sent, state, with_part, with_row}
-use Rattle.site.specs.Steps.{after_join, join_step, joining, sending}
+use Rattle.site.specs.declared.faults.Fault.{Fault}
+use Rattle.site.specs.States.{IsPair, State, book, done, has_room, put_all, row, sent, state, with_part, with_row}
+use Rattle.site.specs.Steps.{after_join, join_step, sending}
 use Rattle.site.proofs.Kept.{asks_all, put_kept}
-use Rattle.site.proofs.Lent.{part_lent, part_same}
+use Rattle.site.proofs.Lent.{LentTo, lent}
 use Rattle.site.proofs.Stepping.{pair_go, rows_back}
 
 module _ {A B : Type 0} (cs : List Cell) (i : ControllerNumber) (w : Row) (x y : A) (z : B) where
@@ -89,65 +90,42 @@ module _ {E : Type 0} (i : ControllerNumber) (r : Controller) (book : List (Entr
         by_room true m e = (if_put_taken cs i led_row.views book (copied log book) said m e, refl)
         by_room false m e = ((cc), (cc))
 
--- the row and the parts as they are lent are those of i and p
-pub joined_lent : {E : Type 0} (i p : ControllerNumber) (x : Site) (cs : List Cell) (books : List (Entry E)) (room : Bool) (j k mine theirs : ℕ)
-    → j ≡ i.number → k ≡ p.number → mine ≡ i.number * x.cap → theirs ≡ p.number * x.cap
-    → joined i (get_or x.rows j down_record) (take (mine + x.cap - mine) (drop mine books)) cs p (get_or x.rows k down_record) (take (theirs + x.cap - theirs) (drop theirs books)) room ≡ joining i p x cs books room
-joined_lent i p x cs books room j k mine theirs index other at from =
-    let b = take (mine + x.cap - mine) (drop mine books) in
-    let lb = take (theirs + x.cap - theirs) (drop theirs books) in
-    ap (λ n. joined i (get_or x.rows n down_record) b cs p (get_or x.rows k down_record) lb room) index
-    ∙ ap (λ n. joined i (row_of x i) b cs p (get_or x.rows n down_record) lb room) other
-    ∙ ap (λ z. joined i (row_of x i) z cs p (row_of x p) lb room) (part_lent books x.cap i.number mine at)
-    ∙ ap (λ z. joined i (row_of x i) (part books x.cap i.number) cs p (row_of x p) z room) (part_lent books x.cap p.number theirs from)
-
 module _ {E : Type 0} (x : Site) (cs : List Cell) (books : List (Entry E)) (pool : List (Message E)) (i p : ControllerNumber) where
   abbrev before : State E
   before = state x cs books pool
 
-  abbrev join_of : Joined E
-  join_of = joining i p x cs books (has_room before)
+  abbrev pub join_of : Joined E
+  join_of = joined i (row before i) (book before i) cs p (row before p) (book before p) (has_room before)
 
   abbrev after : State E
   after = put_all before i join_of.row join_of.book join_of.cells
 
-  -- nothing is put where the join is refused
-  join_kept : (f : Stopped) → join_of.result ≡ Err f → after ≡ before
-  join_kept f e =
-      let kept = joined_kept i (row_of x i) (part books x.cap i.number) cs p (row_of x p) (part books x.cap p.number) (has_room before) f e in
-      ap (λ z. put_all before i z join_of.book join_of.cells) kept.0
-      ∙ ap (λ z. put_all before i (row_of x i) z join_of.cells) kept.1.0
-      ∙ ap (λ z. put_all before i (row_of x i) (part books x.cap i.number) z) kept.1.1
-      ∙ ap (λ z. state z cs (with_part books x.cap i.number (part books x.cap i.number)) pool) (rows_back x i.number (row_of x i) refl)
-      ∙ ap (λ z. state x cs z pool) (part_same books x.cap i.number)
+  -- what the rows and the parts as they are lent give
+  pub joined_lent : (k l : ControllerNumber) (j a b j' a' b' : ℕ) (room : Bool) → LentTo x k i j a b → LentTo x l p j' a' b' → room ≡ has_room before
+      → joined k (get_or x.rows j down_record) (take (b - a) (drop a books)) cs l (get_or x.rows j' down_record) (take (b' - a') (drop a' books)) room ≡ join_of
+  joined_lent k l j a b j' a' b' room given other fits =
+      lent x books k i j a b given (λ z r q. joined z r q cs l (get_or x.rows j' down_record) (take (b' - a') (drop a' books)) room)
+      ∙ lent x books l p j' a' b' other (λ z r q. joined i (row before i) (book before i) cs z r q room)
+      ∙ ap (joined i (row before i) (book before i) cs p (row before p) (book before p)) fits
 
-  -- a and b are i and p
-  module _ (a b : Member) (pair : IsPair x (length books) (length pool) i p (a, b)) (room : Bool) (fits : room ≡ has_room before) where
-    abbrev given : Joined E
-    given = joining a.number b.number x cs books room
-
-    same : given ≡ join_of
-    same = ap (λ z. joining z b.number x cs books room) pair.first.number ∙ ap (λ z. joining i z x cs books room) pair.second.number ∙ ap (joining i p x cs books) fits
-
+  -- where the site's questions are answered yes
+  module _ (m : Member × Member) (pair : IsPair x (length books) (length pool) i p m) where
     goes : join_step before i p ≡ after_join before i join_of
     goes = pair_go before i p (after_join before i join_of) pair.first.made pair.first.below pair.second.below pair.two
 
-    -- what a's join left is what the step leaves
-    module _ (x' : Site) (cs' : List Cell) (books' : List (Entry E)) (site_is : x' ≡ with_row x a.number given.row) (books_is : books' ≡ with_part books x.cap a.number.number given.book) (cells_is : cs' ≡ given.cells) where
-      left : state x' cs' books' pool ≡ after
-      left =
-          ap (λ z. state z cs' books' pool) site_is
-          ∙ ap (λ z. state (with_row x a.number given.row) cs' z pool) books_is
-          ∙ ap (λ z. put_all before a.number given.row given.book z) cells_is
-          ∙ ap (λ z. put_all before z given.row given.book given.cells) pair.first.number
-          ∙ ap (λ z. put_all before i z.row z.book z.cells) same
+    pub join_refused : (x' : Site) (cs' : List Cell) (f : Stopped) (r : Result (Unit {0}) Fault) → x' ≡ with_row x i join_of.row → cs' ≡ join_of.cells → join_of.result ≡ Err f → r ≡ Err (site_fault f)
+        → join_step before i p ≡ done r (state x' cs' books pool)
+    join_refused x' cs' f r site_is cells_is e named =
+        let kept = joined_kept i (row before i) (book before i) cs p (row before p) (book before p) (has_room before) f e in
+        goes ∙ ap (λ z. sending before (λ y. tt) z after) e
+        ∙ ap (λ z. done (Err (site_fault f)) (state z cs books pool)) (sym (site_is ∙ ap (with_row x i) kept.0 ∙ rows_back x i.number (row before i) refl))
+        ∙ ap (λ z. done (Err (site_fault f)) (state x' z books pool)) (sym (cells_is ∙ kept.1.1))
+        ∙ ap (λ z. done z (state x' cs' books pool)) (sym named)
 
-      pub join_refused : (f : Stopped) → given.result ≡ Err f → join_step before i p ≡ done (Err (site_fault f)) (state x' cs' books' pool)
-      join_refused f e =
-          let is : join_of.result ≡ Err f = ap (λ o. o.result) (sym same) ∙ e in
-          goes ∙ ap (λ z. sending before (λ y. tt) z after) is ∙ ap (done (Err (site_fault f))) (sym (left ∙ join_kept f is))
-
-      pub join_sent : (m : Message E) → given.result ≡ Ok m → join_step before i p ≡ done (Ok tt) (sent (state x' cs' books' pool) m)
-      join_sent m e =
-          let is : join_of.result ≡ Ok m = ap (λ o. o.result) (sym same) ∙ e in
-          goes ∙ ap (λ z. sending before (λ y. tt) z after) is ∙ ap (λ z. done (Ok tt) (sent z m)) (sym left)
+    pub join_sent : (x' : Site) (cs' : List Cell) (books' : List (Entry E)) (y : Message E) → x' ≡ with_row x i join_of.row → cs' ≡ join_of.cells → books' ≡ with_part books x.cap i.number join_of.book → join_of.result ≡ Ok y
+        → join_step before i p ≡ done (Ok tt) (sent (state x' cs' books' pool) y)
+    join_sent x' cs' books' y site_is cells_is books_is e =
+        goes ∙ ap (λ z. sending before (λ y. tt) z after) e
+        ∙ ap (λ z. done (Ok tt) (sent (state z after.cells after.books pool) y)) (sym site_is)
+        ∙ ap (λ z. done (Ok tt) (sent (state x' z after.books pool) y)) (sym cells_is)
+        ∙ ap (λ z. done (Ok tt) (sent (state x' cs' z pool) y)) (sym books_is)

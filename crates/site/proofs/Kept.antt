@@ -16,8 +16,8 @@ use Rattle.controller.specs.declared.records.Status.TheVariants.{Down, Waiting, 
 use Rattle.controller.specs.Books.{cap_of}
 use Rattle.controller.specs.Messages.{message_ok}
 use Rattle.controller.specs.Deliveries.{Delivered, by_status, delivered, promised_row, opened_row, taken, took_acknowledgement, took_answer, took_entry, took_form, took_invitation}
-use Rattle.controller.specs.Power.{crashed, recovered}
-use Rattle.controller.specs.Primaries.{changed, passed}
+use Rattle.controller.specs.Power.{recovered}
+use Rattle.controller.specs.Primaries.{changed}
 use Rattle.controller.specs.Questions.{Kept, Put, Question, Written, asks, message, q, refusal_at}
 use Rattle.controller.specs.Records.{is_up, reply_of}
 use Rattle.controller.specs.ViewChanges.{called, called_row, formed, put_taken}
@@ -51,9 +51,6 @@ module _ {A : Type 0} where
   pub put_kept : (cs : List Cell) (i : ControllerNumber) (r r' : Controller) (x : A) → KeepsCell r cs (put_taken cs i r r' x)
   put_kept cs i r r' x = search rules
 
-pub crashed_kept : (i : ControllerNumber) (r : Controller) → KeepsRow r (crashed i r)
-crashed_kept i r f e = search rules
-
 pub recovered_kept : (cs : List Cell) (i : ControllerNumber) (r : Controller) → KeepsRow r (recovered cs i r)
 recovered_kept cs i r f e = search rules
 
@@ -69,10 +66,6 @@ module _ {E : Type 0} where
 
   pub formed_kept : (n : ℕ) (i : ControllerNumber) (r : Controller) (room : Bool) → KeepsRow r (formed {E = E} n i r room)
   formed_kept n i r room f e = search rules
-
-  -- what is sent had room
-  pub passed_room : (i : ControllerNumber) (r : Controller) (b : List (Entry E)) (to : ControllerNumber) (k : Place) (room : Bool) (m : Message E) → passed i r b to k room ≡ Ok m → room ≡ true
-  passed_room i r b to k room m e = search rules
 
 -- a delivery
 module _ {E : Type 0} (i : ControllerNumber) (r : Controller) (m : Message E) where

@@ -43,10 +43,6 @@ module _ {A : Type 0} where
 abbrev pub made_with : Site → ℕ → ℕ → Bool
 made_with x books pool = x.made && books == x.n * x.cap && pool == x.pool && nat_le x.count x.pool
 
--- controller i's record
-abbrev pub row_of : Site → ControllerNumber → Controller
-row_of x i = slice_index_or x.rows i.number down_record
-
 module _ {E : Type 0} (s : State E) where
   abbrev pub is_made : Bool
   is_made = made_with s.site (length s.books) (length s.pool)
@@ -54,6 +50,7 @@ module _ {E : Type 0} (s : State E) where
   abbrev pub has_room : Bool
   has_room = nat_lt s.site.count (length s.pool)
 
+  -- controller i's record
   abbrev pub row : ControllerNumber → Controller
   row i = slice_index_or s.site.rows i.number down_record
 

@@ -1,13 +1,11 @@
 -- The twelve steps of a site: the questions that the site asks, and then what the controller's step gives. Assumes nothing.
-use Rattle.std.specs.Prelude.{ℕ, ◌-◌, Bool, not, List, [], ◌∷◌, Some, None, Ok, Err, Option, Result, ◌==◌, nat_lt, slice_set}
+use Rattle.std.specs.Prelude.{ℕ, ◌-◌, not, List, [], ◌∷◌, Some, None, Ok, Err, Option, Result, ◌==◌, nat_lt, slice_set}
 use Rattle.numbers.specs.declared.views.ControllerNumber.{ControllerNumber}
 use Rattle.numbers.specs.declared.views.Place.{Place}
 use Rattle.numbers.specs.declared.views.Stamp.{Stamp}
-use Rattle.entries.specs.declared.book.Entry.{Entry}
 use Rattle.entries.specs.declared.book.Message.{Message}
 use Rattle.entries.specs.declared.kinds.Answer.{Answer}
 use Rattle.entries.specs.declared.kinds.Question.{Question as Asked}
-use Rattle.cabinet.specs.declared.cells.Cell.{Cell}
 use Rattle.forming.specs.Members.{is_member}
 use Rattle.controller.specs.declared.faults.Fault.{Fault as Stopped}
 use Rattle.controller.specs.declared.slips.Settled.{Settled}
@@ -23,9 +21,8 @@ use Rattle.controller.specs.Slips.{stamp_on}
 use Rattle.controller.specs.Verdicts.{judged, with_slip}
 use Rattle.controller.specs.ViewChanges.{called, formed, invited}
 use Rattle.site.specs.declared.faults.Fault.{Fault}
-use Rattle.site.specs.declared.records.Site.{Site}
 use Rattle.site.specs.Faults.{named_by, site_fault}
-use Rattle.site.specs.States.{Done, State, book, fault_about, fault_by, has_room, is_made, part, put_all, put_cell, put_row, row, row_of, sent, with_count}
+use Rattle.site.specs.States.{Done, State, book, fault_about, fault_by, has_room, is_made, put_all, put_cell, put_row, row, sent, with_count}
 
 -- A controller's result as the site's: taken, with the state that it leaves, or refused, with nothing changed
 
@@ -64,24 +61,6 @@ module _ {E : Type 0} (s : State E) where
 abbrev pub slip_after : Slip → Result Verdict Fault → Result Settled (Fault × Slip)
 slip_after s (Ok v) = Ok (with_slip s v)
 slip_after s (Err f) = Err (f, s)
-
--- what controller i does with its row and its part of the books: it writes a change, passes an entry on, judges a slip by its numbers
-abbrev pub writing : {E : Type 0} → ControllerNumber → Site → List (Entry E) → E → Written Slip E
-writing i x books change = changed i (row_of x i) (part books x.cap i.number) change
-
-abbrev pub passing : {E : Type 0} → ControllerNumber → Site → List (Entry E) → ControllerNumber → Place → Bool → Result (Message E) Stopped
-passing i x books b k room = passed i (row_of x i) (part books x.cap i.number) b k room
-
-abbrev pub judging : {E : Type 0} → ℕ → ControllerNumber → Site → List (Entry E) → Stamp → Result Verdict Stopped
-judging n i x books t = judged n i (row_of x i) (part books x.cap i.number) t
-
--- what controller i of n makes of a message, with its row, its part of the books and its cell
-abbrev pub delivery : {E : Type 0} → ℕ → ControllerNumber → Site → List Cell → List (Entry E) → Message E → Bool → Delivered E
-delivery n i x cs books m room = delivered n i (row_of x i) (part books x.cap i.number) cs m room
-
--- what controller i makes of p's view, with its row, its part of the books and its cell, and with p's row and part to read
-abbrev pub joining : {E : Type 0} → ControllerNumber → ControllerNumber → Site → List Cell → List (Entry E) → Bool → Joined E
-joining i p x cs books room = joined i (row_of x i) (part books x.cap i.number) cs p (row_of x p) (part books x.cap p.number) room
 
 -- The steps
 

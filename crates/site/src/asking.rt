@@ -2,19 +2,12 @@
 ghost use Rattle.std.specs.Prelude.{◌≡◌, ◌+◌, ◌*◌, ◌<◌, ◌≤◌, true, length, MatchResult, nat_lt, slice_set};
 ghost use Rattle.site.specs.States.{IsMember, IsPair, MemberFails, PairFails, made_with, with_count};
 
-use crate::faults::{Fault, Named};
+use crate::faults::Fault;
 use crate::records::Site;
 use entries::{Entry, Message};
 use forming::Member;
 use numbers::{ControllerNumber, Refusal};
-
-// Where a controller's part of the books begins; it ends within the books.
-pub fn start_of(me: Member, cap: u16) -> usize
-    ensures value { result ≡ me.number.number * cap }
-    ensures within { result + cap ≤ me.n * cap }
-{
-    me.index() * cap as usize
-}
+use std::ops::Range;
 
 impl Site {
     // Whether the site is made, with memory of these lengths.
@@ -22,10 +15,22 @@ impl Site {
         ensures value { result ≡ made_with self.now (length books.now) (length pool.now) }
         ensures few { result ≡ true → length pool.now ≤ 65535 }
     {
-        if pool.len() != self.pool as usize {
-            return false;
-        }
-        self.made && books.len() == self.n as usize * self.cap as usize && self.count <= self.pool
+        self.made
+            && books.len() == self.n as usize * self.cap as usize
+            && pool.len() == self.pool as usize
+            && self.count <= self.pool
+    }
+
+    // A controller's part of the books, of cap entries. It is a range, and not lent to a closure:
+    // a slip has no drop, so none could capture it, and what one leaves of a cabinet is not known.
+    pub(crate) fn part(&self, me: Member) -> Range<usize>
+        ensures start { result.start ≡ me.number.number * self.now.cap }
+        ensures end { result.end ≡ me.number.number * self.now.cap + self.now.cap }
+        ensures within { result.end ≤ me.n * self.now.cap }
+    {
+        let cap = self.cap as usize;
+        let start = me.index() * cap;
+        start..start + cap
     }
 
     // Whether the pool has room for one more message.
@@ -45,18 +50,9 @@ impl Site {
         ensures { MatchResult result (λ m. IsMember self.now (length books.now) (length pool.now) i m) (λ e. MemberFails self.now (length books.now) (length pool.now) i e) }
     {
         if !self.is_made(books, pool) {
-            return Err(Fault {
-                refusal: Refusal::NotMade,
-                named: Named::Controller { number: i },
-            });
+            return Err(Fault::at_controller(Refusal::NotMade, i));
         }
-        match Member::new(i, self.n) {
-            Ok(me) => Ok(me),
-            Err(refusal) => Err(Fault {
-                refusal,
-                named: Named::Controller { number: i },
-            }),
-        }
+        Member::new(i, self.n).map_err(|refusal| Fault::at_controller(refusal, i))
     }
 
     // Controllers i and b of this site, which are two.
@@ -70,17 +66,9 @@ impl Site {
         ensures { MatchResult result (λ m. IsPair self.now (length books.now) (length pool.now) i b m) (λ e. PairFails self.now (length books.now) (length pool.now) i b e) }
     {
         let me = self.member(books, pool, i)?;
-        let Ok(other) = Member::new(b, self.n) else {
-            return Err(Fault {
-                refusal: Refusal::NoSuchController,
-                named: Named::Controller { number: i },
-            });
-        };
-        if i.number == b.number {
-            return Err(Fault {
-                refusal: Refusal::NoSuchController,
-                named: Named::Controller { number: i },
-            });
+        let other = Member::new(b, self.n).map_err(|refusal| Fault::at_controller(refusal, i))?;
+        if i == b {
+            return Err(Fault::at_controller(Refusal::NoSuchController, i));
         }
         Ok((me, other))
     }

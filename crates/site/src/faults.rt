@@ -5,7 +5,7 @@ ghost use Rattle.site.specs.Faults.{site_fault, named_by};
 use controller::Fault as ControllerFault;
 use numbers::{ControllerNumber, Refusal};
 
-#[derive(Clone, Copy)]
+#[derive(Clone, Copy, PartialEq, Eq, Debug)]
 pub enum Named {
     // the worn cell, and the controller that it belongs to
     Cell {
@@ -22,10 +22,32 @@ pub enum Named {
     },
 }
 
-#[derive(Clone, Copy)]
+#[derive(Clone, Copy, PartialEq, Eq, Debug)]
 pub struct Fault {
     pub refusal: Refusal,
     pub named: Named,
+}
+
+impl Fault {
+    // A refusal that names the acting controller.
+    pub fn at_controller(refusal: Refusal, number: ControllerNumber) -> Fault
+        ensures { result ≡ record { refusal = refusal; named = Named.Controller number } }
+    {
+        Fault {
+            refusal,
+            named: Named::Controller { number },
+        }
+    }
+
+    // A refusal that names the message.
+    pub(crate) fn at_message(refusal: Refusal, number: u16) -> Fault
+        ensures { result ≡ record { refusal = refusal; named = Named.Message number } }
+    {
+        Fault {
+            refusal,
+            named: Named::Message { number },
+        }
+    }
 }
 
 // A controller's fault gains the question's number; that of a worn cell is 15.
@@ -41,10 +63,7 @@ impl From<ControllerFault> for Fault {
             ControllerFault::Refused {
                 refusal,
                 controller,
-            } => Fault {
-                refusal,
-                named: Named::Controller { number: controller },
-            },
+            } => Fault::at_controller(refusal, controller),
         }
     }
 }
@@ -55,9 +74,6 @@ pub fn of_message(fault: ControllerFault, number: u16) -> Fault
 {
     match fault {
         ControllerFault::Worn { .. } => fault.into(),
-        ControllerFault::Refused { refusal, .. } => Fault {
-            refusal,
-            named: Named::Message { number },
-        },
+        ControllerFault::Refused { refusal, .. } => Fault::at_message(refusal, number),
     }
 }

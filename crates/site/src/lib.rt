@@ -1,4 +1,6 @@
 // The site: seven controller records, and the twelve steps over the caller's books and pool and any cabinet.
+// Books and pool are two arguments, and no struct: each call shows which of them it changes. A step is
+// a call of its own, however short, since its contract names the step.
 #![tactic(auto)]
 
 mod asking;

@@ -1,14 +1,15 @@
 // Making a site.
 ghost use Rattle.std.specs.Prelude.{◌≡◌, ◌≤◌, true};
-ghost use Rattle.site.specs.Making.{cells_zero, made_row as row_made, made_site, make_step, no_site, made_rows as rows_made, same_row as rows_same, sizes_ok};
+ghost use Rattle.site.specs.Making.{cells_zero, made_row as row_made, made_site, make_step, no_site, made_rows as rows_made, sizes_ok};
 ghost use Rattle.site.specs.States.{done, state};
 
-use crate::faults::{Fault, Named};
+use crate::faults::Fault;
 use crate::records::Site;
 use cabinet::Cabinet;
 use controller::Controller;
 use entries::{Entry, Message};
-use numbers::{CellRecord, ControllerNumber, Refusal, Row};
+use numbers::{ControllerNumber, Refusal, Row};
+use std::array::from_fn;
 
 // The record of controller c of a site of n as it is made.
 fn made_row(n: u16, c: u16) -> Controller
@@ -21,25 +22,18 @@ fn made_row(n: u16, c: u16) -> Controller
     }
 }
 
-fn same_row(a: Row, b: Row) -> bool
-    ensures { result ≡ rows_same a b }
+// The seven records of a site of n as it is made.
+fn made_rows(n: u16) -> [Controller; 7]
+    ensures { result ≡ rows_made n }
 {
-    a.current.is_same(b.current) && a.promised.is_same(b.promised)
+    from_fn(|c| made_row(n, c as u16))
 }
 
 // Whether cells 0 to n - 1 hold twice the view (0, 0).
 fn cells_are_zero<C: Cabinet>(cab: &C, n: u16) -> bool
     ensures { result ≡ cells_zero (C.cells cab.now).list n }
 {
-    let zero = CellRecord::zero().row();
-    let mut k = n;
-    while k > 0 {
-        k -= 1;
-        if !same_row(cab.held(k).row(), zero) {
-            return false;
-        }
-    }
-    true
+    (0..n).all(|k| cab.held(k).row() == Row::ZERO)
 }
 
 // Whether the sizes are in range and the books have n × cap entries.
@@ -47,7 +41,10 @@ fn sizes_are_ok(n: u16, cap: u16, books: usize, pool: usize) -> bool
     ensures value { result ≡ sizes_ok n cap books pool }
     ensures few { result ≡ true → pool ≤ 4096 }
 {
-    3 <= n && n <= 7 && 1 <= cap && 8 <= pool && pool <= 4_096 && books == n as usize * cap as usize
+    (3..=7).contains(&n)
+        && 1 <= cap
+        && (8..=4_096).contains(&pool)
+        && books == n as usize * cap as usize
 }
 
 impl Site {
@@ -77,20 +74,12 @@ impl Site {
     ) -> Result<(), Fault>
         ensures { make_step (state self.old (C.cells cab.now).list books.now pool.now) n cap ≡ done result (state self.new (C.cells cab.now).list books.now pool.now) }
     {
-        let named = Named::Controller {
-            number: ControllerNumber { number: 0 },
-        };
+        let first = ControllerNumber { number: 0 };
         if !sizes_are_ok(n, cap, books.len(), pool.len()) {
-            return Err(Fault {
-                refusal: Refusal::NotMade,
-                named,
-            });
+            return Err(Fault::at_controller(Refusal::NotMade, first));
         }
         if !cells_are_zero(cab, n) {
-            return Err(Fault {
-                refusal: Refusal::CellsUsed,
-                named,
-            });
+            return Err(Fault::at_controller(Refusal::CellsUsed, first));
         }
         let rows = made_rows(n);
         *self = Site {
@@ -103,18 +92,4 @@ impl Site {
         };
         Ok(())
     }
-}
-
-fn made_rows(n: u16) -> [Controller; 7]
-    ensures { result ≡ rows_made n }
-{
-    [
-        made_row(n, 0),
-        made_row(n, 1),
-        made_row(n, 2),
-        made_row(n, 3),
-        made_row(n, 4),
-        made_row(n, 5),
-        made_row(n, 6),
-    ]
 }

@@ -45,9 +45,9 @@ impl Site {
     pub fn controller(&self, c: u16) -> Controller
         ensures { result ≡ slice_index_or self.now.rows c down_record }
     {
-        match self.rows.get(c as usize) {
-            Some(row) => *row,
-            None => Controller::down(),
-        }
+        self.rows
+            .get(c as usize)
+            .copied()
+            .unwrap_or_else(Controller::down)
     }
 }

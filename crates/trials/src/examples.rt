@@ -47,7 +47,7 @@ fn worked_examples(rt: HostRuntime) -> Result<(), Fail> {
         assert_eq!(rt; majority(n), expected);
     }
     assert!(rt; view(1, 2).is_earlier(view(2, 0)));
-    let held = CellRecord::new(row((5, 1), (128, 0)))?;
+    let held = CellRecord::try_from(row((5, 1), (128, 0)))?;
     assert_eq!(rt; slot_of(held), [1, 0, 5, 1, 0, 128, 0, 0]);
     Ok(())
 }

@@ -4,11 +4,7 @@ use numbers::*;
 
 // The value, or the refusal of what does not keep its form.
 fn taken<T: Drop>(value: T, in_form: bool) -> Result<T, Refusal> {
-    if in_form {
-        Ok(value)
-    } else {
-        Err(Refusal::BadForm)
-    }
+    in_form.then_some(value).ok_or(Refusal::BadForm)
 }
 
 #[test]
@@ -23,10 +19,13 @@ fn plain_numbers(rt: HostRuntime) {
         (16_384, true, false, false),
         (65_535, true, false, false),
     ] {
-        assert_eq!(rt; Place::new(number), taken(Place { number }, place));
-        assert_eq!(rt; ViewCount::new(number), taken(ViewCount { number }, count));
+        assert_eq!(rt; Place::try_from(number), taken(Place { number }, place));
         assert_eq!(rt;
-            ControllerNumber::new(number),
+            ViewCount::try_from(number),
+            taken(ViewCount { number }, count)
+        );
+        assert_eq!(rt;
+            ControllerNumber::try_from(number),
             taken(ControllerNumber { number }, controller)
         );
     }
@@ -71,7 +70,7 @@ fn order(rt: HostRuntime) {
 
 // The row of the record that is made of the row.
 fn through(row: Row) -> Result<Row, Refusal> {
-    Ok(CellRecord::new(row)?.row())
+    Ok(CellRecord::try_from(row)?.row())
 }
 
 #[test]
@@ -96,8 +95,7 @@ fn records(rt: HostRuntime) {
 
 #[test]
 fn refusals(rt: HostRuntime) {
-    let mut number = 0u8;
-    for refusal in [
+    let refusals = [
         Refusal::NotMade,
         Refusal::NoSuchController,
         Refusal::NoSuchMessage,
@@ -115,9 +113,9 @@ fn refusals(rt: HostRuntime) {
         Refusal::CellWorn,
         Refusal::CellsUsed,
         Refusal::BadForm,
-    ] {
-        number = number.wrapping_add(1);
-        assert_eq!(rt; refusal.number(), number);
+    ];
+    assert_eq!(rt; refusals.len(), 17);
+    for (refusal, number) in refusals.iter().zip(1..) {
+        assert_eq!(rt; u8::from(*refusal), number);
     }
-    assert_eq!(rt; number, 17);
 }

@@ -10,7 +10,7 @@ use std::test::Fail;
 fn turn(step: Step<CardChange>) -> Turn<CardChange> {
     Turn {
         step,
-        outcome: Outcome::Pending,
+        outcome: None,
     }
 }
 
@@ -27,7 +27,7 @@ fn evening(turns: &mut [Turn<CardChange>]) -> Result<(), Fault> {
     };
     // The caller owns the memory: three books of 100 entries, a pool of 8 messages, and a strip with
     // ten slots for each of its seven cells.
-    let view = CellRecord::zero().row().current;
+    let view = View::ZERO;
     let mut books = [Entry {
         view,
         change: withdrawn,
@@ -50,7 +50,7 @@ fn steps() -> [Turn<CardChange>; 6] {
         ControllerNumber { number: 1 },
     );
     let place = Place { number: 1 };
-    let view = CellRecord::zero().row().current;
+    let view = View::ZERO;
     [
         turn(Step::Change {
             i: zero,
@@ -85,18 +85,13 @@ fn steps() -> [Turn<CardChange>; 6] {
 fn example(rt: HostRuntime) -> Result<(), Fail> {
     let mut turns = steps();
     assert!(rt; evening(&mut turns).is_ok());
-    match turns[4].outcome {
-        Outcome::Settled { verdict } => assert_eq!(rt; verdict, Verdict::Confirmed),
-        _ => assert!(rt; false),
-    }
-    match turns[5].outcome {
-        Outcome::Answered { answer } => {
-            assert_eq!(rt; answer, Answer::Red);
-            Ok(())
-        },
-        _ => {
-            assert!(rt; false);
-            Ok(())
-        },
-    }
+    let Some(Ok(Outcome::Settled { verdict })) = turns[4].outcome else {
+        return Err(Fail::new("the slip was not settled"));
+    };
+    assert_eq!(rt; verdict, Verdict::Confirmed);
+    let Some(Ok(Outcome::Answered { answer })) = turns[5].outcome else {
+        return Err(Fail::new("the question was not answered"));
+    };
+    assert_eq!(rt; answer, Answer::Red);
+    Ok(())
 }

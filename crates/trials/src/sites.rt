@@ -57,12 +57,9 @@ fn carries(place: u16, count: u16, controller: u16) -> Body<u16> {
     }
 }
 
-// The number of the question that refused a call, or 0 where it was taken.
-fn refused<T: Drop>(res: Result<T, Fault>) -> u8 {
-    match res {
-        Ok(_) => 0,
-        Err(fault) => fault.refusal.number(),
-    }
+// The number of the question that refused a call; none where it was taken.
+fn refused<T: Drop>(res: Result<T, Fault>) -> Option<u8> {
+    res.err().map(|fault| u8::from(fault.refusal))
 }
 
 fn unmade(tray: Tray) -> Bench {
@@ -74,15 +71,10 @@ fn unmade(tray: Tray) -> Bench {
     }
 }
 
-fn change(b: &mut Bench) -> u8 {
+fn change(b: &mut Bench) -> Option<u8> {
     let me = ControllerNumber { number: 0 };
-    match b.site.change(&mut b.books, &b.pool, me, 7) {
-        Ok(slip) => {
-            let _ = slip.set_aside();
-            0
-        }
-        Err(fault) => fault.refusal.number(),
-    }
+    let res = b.site.change(&mut b.books, &b.pool, me, 7);
+    refused(res.map(|slip| slip.set_aside()))
 }
 
 // A made site with one change, whose entry lies in the pool as message 0.
@@ -101,7 +93,7 @@ fn started() -> Bench {
 }
 
 // What comes of message 0 when it says this.
-fn delivered(said: Message<u16>) -> u8 {
+fn delivered(said: Message<u16>) -> Option<u8> {
     let mut b = started();
     b.pool[0] = said;
     refused(b.site.deliver(&mut b.tray, &mut b.books, &mut b.pool, 0))
@@ -129,7 +121,7 @@ fn every_kind_is_asked_4(rt: HostRuntime) {
         said[2].view.count.number = 16_384;
         said[3].view.controller.number = 3;
         for m in said {
-            assert_eq!(rt; delivered(m), 4);
+            assert_eq!(rt; delivered(m), Some(4));
         }
     }
 }
@@ -138,23 +130,23 @@ fn every_kind_is_asked_4(rt: HostRuntime) {
 #[test]
 fn every_number_is_asked_4(rt: HostRuntime) {
     for (body, expected) in [
-        (normal(16_384, 0, 0), 4),
-        (normal(0, 3, 0), 4),
-        (normal(0, 0, 4), 4),
-        (normal(16_383, 2, 3), 6),
-        (crash(16_384, 0), 4),
-        (crash(0, 3), 4),
-        (crash(16_383, 2), 6),
-        (carries(4, 0, 0), 4),
-        (carries(1, 16_384, 0), 4),
-        (carries(1, 0, 3), 4),
-        (carries(0, 0, 0), 10),
-        (carries(3, 16_383, 2), 10),
-        (carries(2, 16_383, 2), 0),
-        (Body::Acknowledgement { length: 4 }, 4),
-        (Body::Acknowledgement { length: 3 }, 10),
-        (Body::Acknowledgement { length: 2 }, 10),
-        (Body::Acknowledgement { length: 1 }, 0),
+        (normal(16_384, 0, 0), Some(4)),
+        (normal(0, 3, 0), Some(4)),
+        (normal(0, 0, 4), Some(4)),
+        (normal(16_383, 2, 3), Some(6)),
+        (crash(16_384, 0), Some(4)),
+        (crash(0, 3), Some(4)),
+        (crash(16_383, 2), Some(6)),
+        (carries(4, 0, 0), Some(4)),
+        (carries(1, 16_384, 0), Some(4)),
+        (carries(1, 0, 3), Some(4)),
+        (carries(0, 0, 0), Some(10)),
+        (carries(3, 16_383, 2), Some(10)),
+        (carries(2, 16_383, 2), None),
+        (Body::Acknowledgement { length: 4 }, Some(4)),
+        (Body::Acknowledgement { length: 3 }, Some(10)),
+        (Body::Acknowledgement { length: 2 }, Some(10)),
+        (Body::Acknowledgement { length: 1 }, None),
     ] {
         assert_eq!(rt; delivered(message(body)), expected);
     }
@@ -164,28 +156,36 @@ fn every_number_is_asked_4(rt: HostRuntime) {
 #[test]
 fn counts_are_spent(rt: HostRuntime) {
     let mut b = unmade(Tray::new([65_535; 7]));
-    assert_eq!(rt; refused(b.site.make(&b.tray, &b.books, &b.pool, 3, 3)), 0);
+    assert_eq!(rt;
+        refused(b.site.make(&b.tray, &b.books, &b.pool, 3, 3)),
+        None
+    );
     let me = ControllerNumber { number: 2 };
-    let mut last = 0;
+    let mut last = None;
     for _ in 0..16_383 {
         last = refused(b.site.call(&mut b.tray, &b.books, &b.pool, me));
     }
-    assert_eq!(rt; last, 0);
+    assert_eq!(rt; last, None);
     assert_eq!(rt; b.site.controller(2).views.promised, view(16_383, 2));
     assert_eq!(rt;
         refused(b.site.call(&mut b.tray, &b.books, &b.pool, me)),
-        13
+        Some(13)
     );
 }
 
 // 16: cells 0 to n - 1 have to hold twice (0, 0), and only these.
 #[test]
 fn used_cells(rt: HostRuntime) -> Result<(), Fail> {
-    for (cell, n, expected) in [(0, 3, 16), (2, 3, 16), (3, 3, 0), (6, 3, 0)] {
+    for (cell, n, expected) in [
+        (0, 3, Some(16)),
+        (2, 3, Some(16)),
+        (3, 3, None),
+        (6, 3, None),
+    ] {
         let mut b = unmade(Tray::new([9; 7]));
         assert!(rt;
             b.tray
-                .put(cell, CellRecord::new(row((0, 0), (1, 0)))?)
+                .put(cell, CellRecord::try_from(row((0, 0), (1, 0)))?)
                 .is_ok()
         );
         assert_eq!(rt;
@@ -199,15 +199,15 @@ fn used_cells(rt: HostRuntime) -> Result<(), Fail> {
 // 1: a record that was never made, and memory of other lengths than at make.
 #[test]
 fn other_memory(rt: HostRuntime) {
-    assert_eq!(rt; change(&mut unmade(Tray::new([9; 7]))), 1);
+    assert_eq!(rt; change(&mut unmade(Tray::new([9; 7]))), Some(1));
     let me = ControllerNumber { number: 0 };
     let mut b = started();
     let fewer = [entry(0, 0); 8];
     let mut short = [message(Body::Invitation); 7];
-    assert_eq!(rt; refused(b.site.crash(&fewer, &b.pool, me)), 1);
-    assert_eq!(rt; refused(b.site.crash(&b.books, &short, me)), 1);
-    assert_eq!(rt; refused(b.site.lose(&b.books, &mut short, 0)), 1);
-    assert_eq!(rt; refused(b.site.crash(&b.books, &b.pool, me)), 0);
+    assert_eq!(rt; refused(b.site.crash(&fewer, &b.pool, me)), Some(1));
+    assert_eq!(rt; refused(b.site.crash(&b.books, &short, me)), Some(1));
+    assert_eq!(rt; refused(b.site.lose(&b.books, &mut short, 0)), Some(1));
+    assert_eq!(rt; refused(b.site.crash(&b.books, &b.pool, me)), None);
 }
 
 // 1 at make: the bounds of n, cap and the pool, and the books' length.
@@ -217,14 +217,14 @@ fn sizes(rt: HostRuntime) {
     let books = [entry(0, 0); 9];
     let pool = [message(Body::Invitation); 8];
     for (n, cap, entries, messages, expected) in [
-        (3, 3, 9, 8, 0),
-        (2, 3, 6, 8, 1),
-        (8, 1, 8, 8, 1),
-        (7, 1, 7, 8, 0),
-        (3, 0, 0, 8, 1),
-        (3, 3, 8, 8, 1),
-        (3, 2, 9, 8, 1),
-        (3, 3, 9, 7, 1),
+        (3, 3, 9, 8, None),
+        (2, 3, 6, 8, Some(1)),
+        (8, 1, 8, 8, Some(1)),
+        (7, 1, 7, 8, None),
+        (3, 0, 0, 8, Some(1)),
+        (3, 3, 8, 8, Some(1)),
+        (3, 2, 9, 8, Some(1)),
+        (3, 3, 9, 7, Some(1)),
     ] {
         let made = Site::new().make(&tray, &books[0..entries], &pool[0..messages], n, cap);
         assert_eq!(rt; refused(made), expected);
@@ -235,36 +235,29 @@ fn sizes(rt: HostRuntime) {
 #[test]
 fn faults_name_what_was_given(rt: HostRuntime) -> Result<(), Fail> {
     let mut b = started();
-    match b.site.deliver(&mut b.tray, &mut b.books, &mut b.pool, 900) {
-        Err(
-            Fault {
-                named: Named::Message { number },
-                ..
-            },
-        ) => assert_eq!(rt; number, 900),
-        _ => assert!(rt; false),
-    }
-    match b.site.call(
-        &mut Tray::new([0; 7]),
-        &b.books,
-        &b.pool,
-        ControllerNumber { number: 2 },
-    ) {
-        Err(
-            Fault {
-                named: Named::Cell { cell, controller },
-                ..
-            },
-        ) => {
-            assert_eq!(rt; cell, 2);
-            assert_eq!(rt; controller, ControllerNumber { number: 2 });
-            Ok(())
-        }
-        _ => {
-            assert!(rt; false);
-            Ok(())
+    let Err(
+        Fault {
+            named: Named::Message { number },
+            ..
         },
-    }
+    ) = b.site.deliver(&mut b.tray, &mut b.books, &mut b.pool, 900)
+    else {
+        return Err(Fail::new("no fault that names a message"));
+    };
+    assert_eq!(rt; number, 900);
+    let me = ControllerNumber { number: 2 };
+    let Err(
+        Fault {
+            named: Named::Cell { cell, controller },
+            ..
+        },
+    ) = b.site.call(&mut Tray::new([0; 7]), &b.books, &b.pool, me)
+    else {
+        return Err(Fail::new("no fault that names a cell"));
+    };
+    assert_eq!(rt; cell, 2);
+    assert_eq!(rt; controller, me);
+    Ok(())
 }
 
 // A cabinet that somebody else wrote to: a recovered controller has the views of its cell.
@@ -272,9 +265,16 @@ fn faults_name_what_was_given(rt: HostRuntime) -> Result<(), Fail> {
 fn other_hands(rt: HostRuntime) -> Result<(), Fail> {
     let mut b = started();
     let me = ControllerNumber { number: 0 };
-    assert_eq!(rt; refused(b.site.crash(&b.books, &b.pool, me)), 0);
-    assert!(rt; b.tray.put(0, CellRecord::new(row((5, 1), (6, 6)))?).is_ok());
-    assert_eq!(rt; refused(b.site.recover(&b.tray, &b.books, &b.pool, me)), 0);
+    assert_eq!(rt; refused(b.site.crash(&b.books, &b.pool, me)), None);
+    assert!(rt;
+        b.tray
+            .put(0, CellRecord::try_from(row((5, 1), (6, 6)))?)
+            .is_ok()
+    );
+    assert_eq!(rt;
+        refused(b.site.recover(&b.tray, &b.books, &b.pool, me)),
+        None
+    );
     assert_eq!(rt; b.site.controller(0).views, row((5, 1), (6, 6)));
     assert_eq!(rt; b.site.controller(0).complete, false);
     Ok(())
@@ -284,7 +284,7 @@ fn other_hands(rt: HostRuntime) -> Result<(), Fail> {
 #[test]
 fn full_book(rt: HostRuntime) {
     let mut b = started();
-    assert_eq!(rt; change(&mut b), 0);
-    assert_eq!(rt; change(&mut b), 0);
-    assert_eq!(rt; change(&mut b), 11);
+    assert_eq!(rt; change(&mut b), None);
+    assert_eq!(rt; change(&mut b), None);
+    assert_eq!(rt; change(&mut b), Some(11));
 }

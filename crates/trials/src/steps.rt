@@ -105,18 +105,16 @@ fn invited(me: Member, cab: &mut Tray, cut: bool) -> Result<Option<Message<u16>>
     deliver(me, &mut row, cab, &mut book(), invitation, true)
 }
 
-// Whether the answer is normal, and its current view.
-fn answer(me: Member, cab: &mut Tray, cut: bool) -> Option<(bool, View)> {
-    let Ok(Some(sent)) = invited(me, cab, cut) else {
-        return None;
-    };
-    match sent.body {
-        Body::Answer {
-            reply: Reply::Normal { current, .. },
-        } => Some((true, current)),
-        Body::Answer {
-            reply: Reply::Crash { current },
-        } => Some((false, current)),
+fn answer(me: Member, cab: &mut Tray, cut: bool) -> Option<Reply> {
+    match invited(me, cab, cut) {
+        Ok(
+            Some(
+                Message {
+                    body: Body::Answer { reply },
+                    ..
+                },
+            ),
+        ) => Some(reply),
         _ => None,
     }
 }
@@ -126,9 +124,13 @@ fn answer(me: Member, cab: &mut Tray, cut: bool) -> Option<(bool, View)> {
 fn a_recovered_controller_answers_crash(rt: HostRuntime) -> Result<(), Fail> {
     let me = member(1)?;
     let mut cab = Tray::new([9; 7]);
-    let held = CellRecord::new(row((1, 0), (2, 1)))?;
+    let held = CellRecord::try_from(row((1, 0), (2, 1)))?;
     assert!(rt; cab.put(1, held).is_ok());
-    assert_eq!(rt; answer(me, &mut cab, true), Some((false, view(1, 0))));
-    assert_eq!(rt; answer(me, &mut cab, false), Some((true, view(0, 0))));
+    let after_a_cut = answer(me, &mut cab, true);
+    assert!(rt; matches!(after_a_cut, Some(Reply::Crash { current }) if current == view(1, 0)));
+    let without_one = answer(me, &mut cab, false);
+    assert!(rt;
+        matches!(without_one, Some(Reply::Normal { current, .. }) if current == view(0, 0))
+    );
     Ok(())
 }

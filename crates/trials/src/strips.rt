@@ -95,7 +95,7 @@ fn the_first_empty_slot_is_filled(rt: HostRuntime) {
 // With 57,344 bytes each cell has 1,024 slots.
 #[test]
 fn filled_to_the_last_slot(rt: HostRuntime) -> Result<(), Fail> {
-    let last = CellRecord::new(row((5, 1), (128, 0)))?;
+    let last = CellRecord::try_from(row((5, 1), (128, 0)))?;
     let mut bytes = [0; 57_344];
     let mut strip = Strip::new(&mut bytes);
     assert_eq!(rt; puts(&mut strip, 6, CellRecord::zero(), 1_023), 1_023);

@@ -6,8 +6,8 @@ use std::test::Fail;
 
 #[test]
 fn a_tray_wears(rt: HostRuntime) -> Result<(), Fail> {
-    let first = CellRecord::new(row((0, 0), (1, 2)))?;
-    let last = CellRecord::new(row((1, 2), (16_383, 6)))?;
+    let first = CellRecord::try_from(row((0, 0), (1, 2)))?;
+    let last = CellRecord::try_from(row((1, 2), (16_383, 6)))?;
     let mut tray = Tray::new([0, 65_535, 1, 0, 0, 0, 0]);
     for (cell, worn) in [
         (0, true),
@@ -35,7 +35,7 @@ fn a_tray_wears(rt: HostRuntime) -> Result<(), Fail> {
 // Where no writes are left the fault names the cell, and nothing changes.
 #[test]
 fn a_worn_cell_refuses(rt: HostRuntime) -> Result<(), Fail> {
-    let new = CellRecord::new(row((0, 0), (1, 2)))?;
+    let new = CellRecord::try_from(row((0, 0), (1, 2)))?;
     let mut tray = Tray::new([0, 1, 1, 1, 1, 1, 1]);
     for cell in [0, 7, 300] {
         match tray.put(cell, new) {

@@ -2,6 +2,7 @@
 use cabinet::Cabinet;
 use numbers::*;
 
+// `View::new` refuses numbers out of range, which the tests need too.
 pub fn view(count: u16, controller: u16) -> View {
     View {
         count: ViewCount { number: count },
@@ -18,12 +19,8 @@ pub fn row(current: (u16, u16), promised: (u16, u16)) -> Row {
 }
 
 // Puts the record so many times into the cell, and says how often it was taken.
-pub fn puts<C: Cabinet>(cabinet: &mut C, cell: u16, new: CellRecord, times: u32) -> u32 {
-    let mut taken = 0u32;
-    for _ in 0..times {
-        if cabinet.put(cell, new).is_ok() {
-            taken = taken.wrapping_add(1);
-        }
-    }
-    taken
+pub fn puts<C: Cabinet>(cabinet: &mut C, cell: u16, new: CellRecord, times: usize) -> usize {
+    (0..times)
+        .filter(|_| cabinet.put(cell, new).is_ok())
+        .count()
 }

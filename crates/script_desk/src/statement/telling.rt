@@ -1,46 +1,28 @@
 // What happened, in plain words.
 use super::{Heard, Statement};
-use crate::report::answer_word;
+use crate::spelling::Spelled;
 use crate::views::Dotted;
 use entries::Question;
 use site::Site;
 use std::io::Write;
 use std::{fmt, io};
 
-// So many of a thing, in the singular or the plural.
-#[derive(Clone, Copy)]
-struct Count {
-    number: u64,
-    one: &'static str,
-    many: &'static str,
-}
-
-impl fmt::Display for Count {
-    fn fmt<W: fmt::Write>(&self, f: &mut fmt::Formatter<W>) -> fmt::Result {
-        let number = self.number;
-        let noun = if number == 1 { self.one } else { self.many };
-        write!(f, "{number} {noun}")
-    }
-}
-
 // The controllers of a site that are up, or those that are down.
 #[derive(Clone, Copy)]
-struct Roll {
-    site: Site,
+struct Roll<'a> {
+    site: &'a Site,
     up: bool,
 }
 
-impl fmt::Display for Roll {
+impl fmt::Display for Roll<'_> {
     fn fmt<W: fmt::Write>(&self, f: &mut fmt::Formatter<W>) -> fmt::Result {
-        let mut before = "";
-        for c in 0..self.site.n() {
-            if self.site.controller(c).is_up() == self.up {
-                write!(f, "{before}{c}")?;
-                before = ", ";
-            }
-        }
-        if before.is_empty() {
-            write!(f, "none")?;
+        let mut listed = (0..self.site.n()).filter(|c| self.site.controller(*c).is_up() == self.up);
+        let Some(first) = listed.next() else {
+            return write!(f, "none");
+        };
+        write!(f, "{first}")?;
+        for c in listed {
+            write!(f, ", {c}")?;
         }
         Ok(())
     }
@@ -48,27 +30,25 @@ impl fmt::Display for Roll {
 
 impl Statement {
     fn tell_steps<O: Write>(&self, out: &mut O) -> io::Result<()> {
-        let taken = Count {
-            number: self.taken,
-            one: "step was",
-            many: "steps were",
-        };
+        let taken = self.taken;
+        let were = if taken == 1 { "step was" } else { "steps were" };
         let refused = self.refused;
-        writeln!(out, "= {taken} taken and {refused} refused.")
+        writeln!(out, "= {taken} {were} taken and {refused} refused.")
     }
 
     fn tell_changes<O: Write>(&self, out: &mut O) -> io::Result<()> {
-        let handed = Count {
-            number: self.fates.handed,
-            one: "change was",
-            many: "changes were",
+        let handed = self.fates.handed;
+        let were = if handed == 1 {
+            "change was"
+        } else {
+            "changes were"
         };
         let confirmed = self.fates.confirmed;
         let lost = self.fates.lost;
         let waiting = self.fates.waiting();
         writeln!(
             out,
-            "= {handed} handed out: {confirmed} confirmed, {lost} lost, {waiting} still waiting."
+            "= {handed} {were} handed out: {confirmed} confirmed, {lost} lost, {waiting} still waiting."
         )
     }
 
@@ -83,28 +63,26 @@ impl Statement {
     }
 
     fn tell_lookups<O: Write>(&self, out: &mut O) -> io::Result<()> {
-        let mut is_any = false;
-        for (i, last) in self.heard.iter().enumerate() {
+        if self.known.iter().all(|known| known.heard.is_none()) {
+            return writeln!(out, "= Nothing was looked up.");
+        }
+        for (i, known) in self.known.iter().enumerate() {
             let Some(
                 Heard {
                     question: Question { first, second },
                     answer,
                     view,
                 },
-            ) = *last
+            ) = known.heard
             else {
                 continue;
             };
-            let said = answer_word(answer);
+            let said = answer.word();
             let view = Dotted(view);
             writeln!(
                 out,
                 "= The last lookup at controller {i} said {said} of ({first}, {second}), in view {view}."
             )?;
-            is_any = true;
-        }
-        if !is_any {
-            writeln!(out, "= Nothing was looked up.")?;
         }
         Ok(())
     }
@@ -117,14 +95,8 @@ impl Statement {
         }
         self.tell_changes(out)?;
         self.tell_views(out)?;
-        let up = Roll {
-            site: *site,
-            up: true,
-        };
-        let down = Roll {
-            site: *site,
-            up: false,
-        };
+        let up = Roll { site, up: true };
+        let down = Roll { site, up: false };
         writeln!(out, "= Up: {up}. Down: {down}.")?;
         self.tell_lookups(out)
     }

@@ -1,25 +1,16 @@
-use Rattle.std.proofs.Common.{◌≡◌, ◌-◌, drop, unwrap_or, sym, ap, ◌∙◌, arith}
-use Rattle.std.proofs.lemmas.List.{drop_all}
-use Rattle.entries.specs.Lookups.{settled, looked}
-use Rattle.entries.proofs.Settling.{settled_back, settled_drop, looked_rule}
+use Rattle.std.proofs.Common.{arith, ◌≡◌, Some, None, unwrap_or, sym, ap, ◌∙◌}
+use Rattle.std.proofs.lemmas.Grind.{common_steps}
+use Rattle.entries.specs.Lookups.{looked}
+use Rattle.entries.proofs.Settling.{settled_from, looked_rule}
 use Rattle.entries.proofs.lookups.lookup.Goals as goal
 
-pub loop-i-init : goal.loop-i-init
-loop-i-init g c = (omega arith, ap (λ es. settled g.E.Kind.says es c.args.question) (drop_all _ c.args.book.now (omega arith)))
+pub loop-last-preserved : goal.loop-last-preserved
+loop-last-preserved g c = sym (settled_from g.E.Kind.says c.loop-last.rest.now c.in-Some.before.now c.in-Some.last.now c.args.question None c.in-Some.ensures.cases.0 (sym c.say.ensures ∙ c.in_default-say.is)) ∙ c.loop-last.invariant
 
-pub loop-i-preserved : goal.loop-i-preserved
-loop-i-preserved g c =
-    let back = settled_back g.E.Kind.says c.args.book.now c.loop-i.i c.index-book-i.result c.args.question (omega arith) c.loop-i.invariant.0 c.loop-i.invariant.1 in
-    (omega arith, back ∙ sym c.say.ensures ∙ c.in_default.is)
+pub returns-in_default-clause-rule : goal.returns-in_default-clause-rule
+returns-in_default-clause-rule g c = looked_rule g.E.Kind.says g.E.Kind.UNSETTLED c.args.book.now c.args.question _ (grind (arith, common_steps))
 
-pub returns-then-i-eq0 : goal.returns-then-i-eq0
-returns-then-i-eq0 g c =
-    let all : settled g.E.Kind.says (drop c.loop-i.i c.args.book.now) c.args.question ≡ settled g.E.Kind.says c.args.book.now c.args.question = ap (λ n. settled g.E.Kind.says (drop n c.args.book.now) c.args.question) c.if-i-eq0.true in
-    let value : c.unsettled_answer.result ≡ looked g.E.Kind.says g.E.Kind.unsettled c.args.book.now c.args.question = c.unsettled_answer.ensures ∙ sym (ap (λ o. unwrap_or o g.E.Kind.unsettled) (sym all ∙ c.loop-i.invariant.1)) in
-    record { value = value; rule = looked_rule g.E.Kind.says g.E.Kind.unsettled c.args.book.now c.args.question _ value }
-
-pub returns-in-Some : goal.returns-in-Some
-returns-in-Some g c =
-    let back = settled_back g.E.Kind.says c.args.book.now c.loop-i.i c.index-book-i.result c.args.question (omega arith) c.loop-i.invariant.0 c.loop-i.invariant.1 in
-    let value : c.in-Some.answer ≡ looked g.E.Kind.says g.E.Kind.unsettled c.args.book.now c.args.question = sym (ap (λ o. unwrap_or o g.E.Kind.unsettled) (settled_drop g.E.Kind.says (c.loop-i.i - 1) c.args.book.now c.args.question c.in-Some.answer (back ∙ sym c.say.ensures ∙ c.in-Some.is))) in
-    record { value = value; rule = looked_rule g.E.Kind.says g.E.Kind.unsettled c.args.book.now c.args.question _ value }
+pub returns-in-Some-say : goal.returns-in-Some-say
+returns-in-Some-say g c =
+    let value : c.in-Some-say.answer ≡ looked g.E.Kind.says g.E.Kind.UNSETTLED c.args.book.now c.args.question = ap (λ o. unwrap_or o g.E.Kind.UNSETTLED) (sym (settled_from g.E.Kind.says c.loop-last.rest.now c.in-Some.before.now c.in-Some.last.now c.args.question (Some c.in-Some-say.answer) c.in-Some.ensures.cases.0 (sym c.say.ensures ∙ c.in-Some-say.is)) ∙ c.loop-last.invariant) in
+    record { value = value; rule = looked_rule g.E.Kind.says g.E.Kind.UNSETTLED c.args.book.now c.args.question _ value }

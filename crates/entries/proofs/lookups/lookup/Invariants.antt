@@ -1,10 +1,10 @@
-use Rattle.std.proofs.Common.{◌≡◌, ◌≤◌, length, drop, None}
+use Rattle.std.proofs.Common.{◌≡◌, length}
 use Rattle.entries.specs.Lookups.{settled}
 use Rattle.entries.proofs.lookups.lookup.Given as goal
 
--- nothing from place i on settles the question
-abbrev pub invariant-loop-i : goal.invariant-loop-i
-invariant-loop-i g l = (l.i ≤ length l.book) × (settled g.E.Kind.says (drop l.i l.book) l.question ≡ None)
+-- what is left settles the question as the whole book does
+abbrev pub invariant-loop-last : goal.invariant-loop-last
+invariant-loop-last g l = settled g.E.Kind.says l.rest l.question ≡ settled g.E.Kind.says l.book l.question
 
-abbrev pub decreases-loop-i : goal.decreases-loop-i
-decreases-loop-i g l = l.i
+abbrev pub decreases-loop-last : goal.decreases-loop-last
+decreases-loop-last g l = length l.rest

@@ -1,4 +1,4 @@
-use Rattle.std.proofs.Common.{Some, sym, ap, ◌∙◌, arith, rules}
+use Rattle.std.proofs.Common.{Some, sym, ap, ◌∙◌, arith}
 use Rattle.std.proofs.lemmas.Bool.{cond-false}
 use Rattle.cabinet.specs.Cells.{cell_at}
 use Rattle.cabinet.specs.Strips.{cells_in}
@@ -6,20 +6,16 @@ use Rattle.cabinet.proofs.Cuts.{slice_next, slice_within}
 use Rattle.cabinet.proofs.Strips.{not_worn}
 use Rattle.cabinet.proofs.strip.Strip.first_empty.Goals as goal
 
-pub overflow_mul-result : goal.overflow_mul-result
-overflow_mul-result c =
+pub returns-clause-place : goal.returns-clause-place
+returns-clause-place c =
+    let s = c.args.self.now in
+    let p = c.in_ok-part.part.now in
     let mine = c.in_ok-part.ensures in
-    let within = slice_within c.args.self.now.bytes.now c.in_ok-part.part.now c.args.cell mine.0 mine.3 in
-    search rules
+    let place = slice_next s.bytes.now p c.args.cell mine.place.2 mine.place.1 c.filled_slots-n.result c.filled_slots-n.ensures.value in
+    ap Some place ∙ sym (cond-false _ _ _ (not_worn (cell_at (cells_in s) c.args.cell) p mine.cell (omega arith)))
 
-pub overflow_add-result : goal.overflow_add-result
-overflow_add-result c =
+pub returns-clause-room : goal.returns-clause-room
+returns-clause-room c =
     let mine = c.in_ok-part.ensures in
-    let within = slice_within c.args.self.now.bytes.now c.in_ok-part.part.now c.args.cell mine.0 mine.3 in
-    search rules
-
-pub returns : goal.returns
-returns c =
-    let mine = c.in_ok-part.ensures in
-    let place = slice_next c.args.self.now.bytes.now c.in_ok-part.part.now c.args.cell mine.0 mine.3 c.filled_slots-n.result c.filled_slots-n.ensures.value in
-    ap Some place ∙ sym (cond-false _ _ _ (not_worn (cell_at (cells_in c.args.self.now) c.args.cell) c.in_ok-part.part.now mine.2 (omega arith)))
+    let within = slice_within c.args.self.now.bytes.now c.in_ok-part.part.now c.args.cell mine.place.2 mine.place.1 in
+    omega arith

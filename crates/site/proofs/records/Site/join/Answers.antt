@@ -1,54 +1,89 @@
-use Rattle.std.proofs.Common.{◌≡◌, ◌<◌, length, set, Ok, Err, sym, ap, ◌∙◌, arith, ltb-true}
+use Rattle.std.proofs.Common.{◌≡◌, ◌<◌, ◌+◌, ◌-◌, ◌*◌, ◌≤◌, length, drop, min, Err, sym, ap, ◌∙◌, arith, rules, ltb-true}
+use lib.Seq.{paste}
 use Rattle.std.proofs.lemmas.Result.{err_from_is_err_and}
-use Rattle.site.specs.States.{done, has_room, part, row_of, state}
-use Rattle.site.specs.Steps.{after_join, joining}
-use Rattle.site.proofs.Joined.{join_refused, join_sent, joined_taken}
-use Rattle.site.proofs.Stepping.{pair_stop}
+use Rattle.site.specs.States.{book, has_room, row, state, with_part}
+use Rattle.site.proofs.Copied.{part_copied}
+use Rattle.site.proofs.Joined.{join_refused, join_sent, joined_lent, joined_taken}
+use Rattle.site.proofs.Lent.{LentTo, lent, row_back}
 use Rattle.site.proofs.records.Site.join.Goals as goal
 
-pub returns-in_err-me : goal.returns-in_err-me
-returns-in_err-me g c =
+pub returns-in_err-message : goal.returns-in_err-message
+returns-in_err-message g c =
+    let x = c.args.self.now in
     let cs = (g.C.Cabinet.cells c.args.cab.now).list in
-    let s = state c.args.self.now cs c.args.books.now c.args.pool.now in
+    let books = c.args.books.now in
+    let pool = c.args.pool.now in
     let i = c.args.i in
     let p = c.args.primary in
-    let e = err_from_is_err_and c.from_residual.result c.from_residual.ensures.1 in
-    pair_stop s i p (after_join s i (joining i p c.args.self.now cs c.args.books.now (has_room s))) c.in_err-me.field-0.0 c.in_err-me.ensures
-    ∙ ap (λ r. done r s) (sym (e.1 ∙ ap (λ z. Err z) e.2))
+    let m = c.in_ok-me in
+    let given : LentTo x m.me.number i c.index-2.result c.part-mine.result.start c.part-mine.result.end =
+    record { who = m.ensures.first.number; row = c.index-2.ensures.value; from = c.part-mine.ensures.start; to = c.part-mine.ensures.end } in
+    let other : LentTo x m.leader.number p c.index.result c.part-theirs.result.start c.part-theirs.result.end =
+    record { who = m.ensures.second.number; row = c.index.ensures.value; from = c.part-theirs.ensures.start; to = c.part-theirs.ensures.end } in
+    let same = joined_lent x cs books pool i p m.me.number m.leader.number _ _ _ _ _ _ c.has_room-room.result given other c.has_room-room.ensures in
+    let was = c.join.ensures in
+    let end = err_from_is_err_and c.from_residual-in_err-message.result c.from_residual-in_err-message.ensures.1 in
+    join_refused x cs books pool i p (m.me, m.leader) m.ensures _ _ c.in_err-message.field-0.0 _
+    (row_back x books m.me.number i _ _ _ given c.join.new.row _ (was.row ∙ ap (λ o. o.row) same))
+    (was.cells ∙ ap (λ o. o.cells) same)
+    (ap (λ o. o.result) (sym same) ∙ sym c.in_err-message.ensures.result)
+    (end.1 ∙ ap (λ z. Err z) end.2)
 
 pub send-requires : goal.send-requires
 send-requires g c =
     let x = c.args.self.now in
+    let cs = (g.C.Cabinet.cells c.args.cab.now).list in
     let books = c.args.books.now in
     let pool = c.args.pool.now in
-    let me = c.in_ok-me.me.number in
-    let other = c.in_ok-me.leader.number in
-    let was = c.in_ok-message.ensures in
-    let room = (joined_taken me (row_of x me) (part books x.cap me.number) (g.C.Cabinet.cells c.args.cab.now).list other (row_of x other) (part books x.cap other.number) c.has_room-room.result c.in_ok-message.message (sym was.result)).1 in
-    let same : c.follow.new.self.count ≡ x.count = ap (λ z. z.count) was.site in
-    let less : x.count < length pool = ltb-true x.count (length pool) (sym c.has_room-room.ensures ∙ room) in
-    (omega (arith, same, less), omega (arith, same, less, c.in_ok-me.ensures.first.few))
-
-pub returns-in_err-message : goal.returns-in_err-message
-returns-in_err-message g c =
+    let i = c.args.i in
+    let p = c.args.primary in
     let m = c.in_ok-me in
-    let was = c.in_err-message.ensures in
-    let f = c.in_err-message.field-0.0 in
-    let last = c.follow.new in
-    let cs = (g.C.Cabinet.cells last.cab).list in
-    let e = err_from_is_err_and c.from_residual-in_err-message.result c.from_residual-in_err-message.ensures.1 in
-    join_refused c.args.self.now (g.C.Cabinet.cells c.args.cab.now).list c.args.books.now c.args.pool.now c.args.i c.args.primary m.me m.leader m.ensures
-    c.has_room-room.result c.has_room-room.ensures last.self cs last.books was.site was.books was.cells f (sym was.result)
-    ∙ ap (λ z. done z (state last.self cs last.books c.args.pool.now)) (sym (e.1 ∙ ap (λ z. Err z) e.2))
+    let given : LentTo x m.me.number i c.index-2.result c.part-mine.result.start c.part-mine.result.end =
+    record { who = m.ensures.first.number; row = c.index-2.ensures.value; from = c.part-mine.ensures.start; to = c.part-mine.ensures.end } in
+    let other : LentTo x m.leader.number p c.index.result c.part-theirs.result.start c.part-theirs.result.end =
+    record { who = m.ensures.second.number; row = c.index.ensures.value; from = c.part-theirs.ensures.start; to = c.part-theirs.ensures.end } in
+    let same = joined_lent x cs books pool i p m.me.number m.leader.number _ _ _ _ _ _ c.has_room-room.result given other c.has_room-room.ensures in
+    let was = c.join.ensures in
+    let s = state x cs books pool in
+    let sent = ap (λ o. o.result) (sym same) ∙ sym c.in_ok-message.ensures.result in
+    let room = (joined_taken i (row s i) (book s i) cs p (row s p) (book s p) (has_room s) c.in_ok-message.message sent).1 in
+    let less : x.count < length pool = ltb-true x.count (length pool) room in
+    (less, omega (arith, less, m.ensures.first.few))
 
 pub returns : goal.returns
 returns g c =
+    let x = c.args.self.now in
+    let cs = (g.C.Cabinet.cells c.args.cab.now).list in
+    let books = c.args.books.now in
+    let pool = c.args.pool.now in
+    let i = c.args.i in
+    let p = c.args.primary in
     let m = c.in_ok-me in
-    let was = c.in_ok-message.ensures in
-    let y = c.in_ok-message.message in
-    let last = c.follow.new in
-    let cs = (g.C.Cabinet.cells last.cab).list in
-    join_sent c.args.self.now (g.C.Cabinet.cells c.args.cab.now).list c.args.books.now c.args.pool.now c.args.i c.args.primary m.me m.leader m.ensures
-    c.has_room-room.result c.has_room-room.ensures last.self cs last.books was.site was.books was.cells y (sym was.result)
-    ∙ ap (λ z. done (Ok tt) (state z cs last.books (set c.args.pool.now last.self.count y))) (sym c.send.ensures.site)
-    ∙ ap (λ z. done (Ok tt) (state c.send.new.self cs last.books z)) (sym c.send.ensures.pool)
+    let given : LentTo x m.me.number i c.index-2.result c.part-mine.result.start c.part-mine.result.end =
+    record { who = m.ensures.first.number; row = c.index-2.ensures.value; from = c.part-mine.ensures.start; to = c.part-mine.ensures.end } in
+    let other : LentTo x m.leader.number p c.index.result c.part-theirs.result.start c.part-theirs.result.end =
+    record { who = m.ensures.second.number; row = c.index.ensures.value; from = c.part-theirs.ensures.start; to = c.part-theirs.ensures.end } in
+    let same = joined_lent x cs books pool i p m.me.number m.leader.number _ _ _ _ _ _ c.has_room-room.result given other c.has_room-room.ensures in
+    let was = c.join.ensures in
+    let s = state x cs books pool in
+    let sent = ap (λ o. o.result) (sym same) ∙ sym c.in_ok-message.ensures.result in
+    let taken = joined_taken i (row s i) (book s i) cs p (row s p) (book s p) (has_room s) c.in_ok-message.message sent in
+    let a = c.part-mine.result.start in
+    let b = c.part-theirs.result.start in
+    let n = c.used.result in
+    let long : b + n - b ≡ n = omega arith in
+    let count : n ≡ min (row s p).length x.cap = c.used.ensures ∙ lent x books m.leader.number p _ _ _ other (λ z r q. min r.length x.cap) in
+    let to : a ≡ i.number * x.cap = c.part-mine.ensures.start ∙ ap (λ z. z.number * x.cap) m.ensures.first.number in
+    let from : b ≡ p.number * x.cap = c.part-theirs.ensures.start ∙ ap (λ z. z.number * x.cap) m.ensures.second.number in
+    let copy = c.copy_within.ensures.after
+    ∙ ap (λ z. paste books z (drop b books) (b + n - b)) to
+    ∙ ap (λ z. paste books (i.number * x.cap) (drop z books) (b + n - b)) from
+    ∙ ap (paste books (i.number * x.cap) (drop (p.number * x.cap) books)) (long ∙ count) in
+    let size = ap (λ z. z * x.cap) m.ensures.second.size in
+    let within : p.number * x.cap + x.cap ≤ length books = omega (arith, size, from, m.ensures.first.books_long, c.part-theirs.ensures.start, c.part-theirs.ensures.end, c.part-theirs.ensures.within) in
+    let d = join_sent x cs books pool i p (m.me, m.leader) m.ensures _ _ _ c.in_ok-message.message
+    (row_back x books m.me.number i _ _ _ given c.join.new.row _ (was.row ∙ ap (λ o. o.row) same))
+    (was.cells ∙ ap (λ o. o.cells) same)
+    (copy ∙ part_copied books x.cap i.number p.number (row s p).length within ∙ ap (λ z. with_part books x.cap i.number z) (sym taken.0))
+    sent in
+    search rules
