@@ -1,5 +1,5 @@
 -- A put into a strip: the slot found for it, the form while it is written, and the cells after it. Assumes nothing.
-use Rattle.std.proofs.Common.{◌≡◌, ℕ, ◌+◌, ◌-◌, ◌*◌, ◌<◌, ◌≤◌, Bool, true, false, cond, List, ◌∷◌, length, get_or, drop, set, Some, None, sym, refl, ap, ◌∙◌, subst, arith}
+use Rattle.std.proofs.Common.{◌≡◌, ℕ, ◌+◌, ◌-◌, ◌*◌, ◌<◌, ◌≤◌, Bool, true, false, cond, List, ◌∷◌, length, get_or, take, drop, set, Some, None, sym, refl, ap, ◌∙◌, subst, arith}
 use Rattle.std.specs.Bool.{Decides}
 use borrow.Rule.Slice.PartMut.{put_mid}
 use Rattle.std.proofs.lemmas.List.{get_or-drop, get_or-take}
@@ -15,10 +15,16 @@ use Rattle.cabinet.proofs.Fills.{free_form, fill_form, fill_cell}
 use Rattle.cabinet.proofs.Search.{filled_stop}
 use Rattle.cabinet.proofs.Strips.{cell_sound}
 
--- byte i begins the first empty slot of cell c, one of the seven of a strip in form, and rest is what is written there after the first byte b
+-- byte i begins the first empty slot of cell c, one of the seven of a strip in form, and rest, the slot's later bytes, is written there before its first
 module _ (flag : Bool) (bs : List ℕ) (c i : ℕ) (told : Decides flag (StripForm bs)) (e : Some i ≡ cond (is_worn (strip_cells flag bs) c) None (Some (next_slot bs c)))
     (mine : (flag ≡ true) × (c < 7) × (filled (part bs c) < slots_in (part bs c))) (fits : i + 8 ≤ length bs)
-    (k b : ℕ) (rest : List ℕ) (v : Row) (kept : row_ok v ≡ true) (seven : k ≡ 7) (first : b ≡ 1) (later : rest ≡ drop 1 (slot_bytes v)) where
+    (k : ℕ) (slot rest : List ℕ) (v : Row) (kept : row_ok v ≡ true) (seven : k ≡ 7) (bytes : slot ≡ slot_bytes v) (after : rest ≡ take 7 (drop 1 slot)) where
+  first : get_or slot 0 0 ≡ 1
+  first = ap (λ z. get_or z 0 0) bytes
+
+  later : rest ≡ drop 1 (slot_bytes v)
+  later = after ∙ ap (λ z. take 7 (drop 1 z)) bytes
+
   left : is_worn (strip_cells flag bs) c ≡ false
   left = grind arith
 
@@ -66,14 +72,14 @@ module _ (flag : Bool) (bs : List ℕ) (c i : ℕ) (told : Decides flag (StripFo
       let whole = rest_written bs rest i 8 k 0 fits (omega arith) ∙ ap (λ z. over bs i 8 (z ∷ rest)) slot_free ∙ ap (λ j. over bs j 8 (0 ∷ rest)) place in
       ((λ _. subst StripForm (sym whole) (written_form bs c (filled p) (0 ∷ rest) mine.1 mine.2 long form (free_form p (0 ∷ rest) (form.parts c mine.1) mine.2 long refl))), (λ _. mine.0))
 
-  written : set (put_mid (i + 1) k bs rest) i b ≡ with_slot bs i v
-  written = all_written bs rest i 8 k 0 fits (omega arith) b ∙ ap (λ z. over bs i 8 (z ∷ rest)) first ∙ ap (λ z. over bs i 8 (1 ∷ z)) later
+  written : set (put_mid (i + 1) k bs rest) i (get_or slot 0 0) ≡ with_slot bs i v
+  written = all_written bs rest i 8 k 0 fits (omega arith) (get_or slot 0 0) ∙ ap (λ z. over bs i 8 (z ∷ rest)) first ∙ ap (λ z. over bs i 8 (1 ∷ z)) later
 
-  pub put_told : Decides flag (StripForm (set (put_mid (i + 1) k bs rest) i b))
+  pub put_told : Decides flag (StripForm (set (put_mid (i + 1) k bs rest) i (get_or slot 0 0)))
   put_told = ((λ _. subst StripForm (sym written) put_form), (λ _. mine.0))
 
-  pub put_bytes_are : set (put_mid (i + 1) k bs rest) i b ≡ put_bytes flag bs c v
+  pub put_bytes_are : set (put_mid (i + 1) k bs rest) i (get_or slot 0 0) ≡ put_bytes flag bs c v
   put_bytes_are = written ∙ put_where
 
-  pub put_cells_are : strip_cells flag (set (put_mid (i + 1) k bs rest) i b) ≡ put_cells (strip_cells flag bs) c v
+  pub put_cells_are : strip_cells flag (set (put_mid (i + 1) k bs rest) i (get_or slot 0 0)) ≡ put_cells (strip_cells flag bs) c v
   put_cells_are = ap (strip_cells flag) written ∙ put_done

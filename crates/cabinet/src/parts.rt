@@ -36,8 +36,5 @@ pub fn last_record(part: &[u8]) -> CellRecord
     if n == 0 {
         return CellRecord::zero();
     }
-    match read_slot(&part[8 * (n - 1)..8 * n]) {
-        Ok(held) => held,
-        Err(_) => unreachable(),
-    }
+    read_slot(&part[8 * (n - 1)..8 * n]).unwrap()
 }

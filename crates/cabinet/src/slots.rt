@@ -5,9 +5,10 @@ ghost use Rattle.numbers.specs.Refusals.{refusal};
 ghost use Rattle.numbers.specs.Views.{view_of, view_ok};
 ghost use Rattle.cabinet.specs.Slots.{slot_bytes, slot_ok, row_in, OneToOne};
 
-use numbers::{CellRecord, ControllerNumber, Refusal, Row, View, ViewCount};
+use numbers::{CellRecord, Refusal, Row, View};
 
-// The bytes of the filled slot with this record. Filled slots and records match one to one.
+// The bytes of the filled slot with this record. Filled slots and records match one to one. Two
+// functions, and no `From` and `TryFrom`, which only the crate of the record could write.
 pub fn slot_of(new: CellRecord) -> [u8; 8]
     ensures bytes { result ≡ slot_bytes (row_of new) }
     ensures matched { OneToOne }
@@ -43,12 +44,5 @@ fn view_bytes(view: View) -> [u8; 3]
 fn view_in(high: u8, low: u8, controller: u8) -> View
     ensures { result ≡ view_of (high * 256 + low) controller }
 {
-    View {
-        count: ViewCount {
-            number: u16::from_be_bytes([high, low]),
-        },
-        controller: ControllerNumber {
-            number: u16::from(controller),
-        },
-    }
+    View::of(u16::from_be_bytes([high, low]), u16::from(controller))
 }

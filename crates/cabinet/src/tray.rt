@@ -52,10 +52,7 @@ impl Cabinet for Tray {
         let Some(kept) = self.rows.get(cell as usize) else {
             return CellRecord::zero();
         };
-        match CellRecord::try_from(kept.row) {
-            Ok(held) => held,
-            Err(_) => unreachable(),
-        }
+        CellRecord::try_from(kept.row).unwrap()
     }
 
     fn worn(&self, cell: u16) -> bool {

@@ -1,17 +1,13 @@
 -- A controller's record, and what can be read off it. Assumes nothing.
 use Rattle.std.specs.Prelude.{Bool, true, false, cond, List, replicate, Some, None, Option, ◌==◌, slice_set}
 use Rattle.numbers.specs.declared.views.ControllerNumber.{ControllerNumber}
-use Rattle.numbers.specs.declared.views.View.{View}
 use Rattle.numbers.specs.Rows.{zero_row}
-use Rattle.numbers.specs.Views.{controller_of, view_of}
+use Rattle.numbers.specs.Views.{controller_of}
 use Rattle.entries.specs.declared.book.Reply.{Reply}
 use Rattle.entries.specs.declared.book.Reply.TheVariants.{Normal, Crash}
 use Rattle.controller.specs.declared.records.Controller.{Controller}
 use Rattle.controller.specs.declared.records.Status.{Status}
 use Rattle.controller.specs.declared.records.Status.TheVariants.{Down, Waiting, Manager, Backup, Primary}
-
-abbrev pub zero_view : View
-zero_view = view_of 0 0
 
 -- a table of seven with nothing in it but x at i
 abbrev pub only : {A : Type 0} → ControllerNumber → A → List (Option A)

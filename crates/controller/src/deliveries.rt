@@ -12,7 +12,7 @@ use crate::view_changes::{put_views, reply};
 use cabinet::Cabinet;
 use entries::{Body, Entry, Message, Reply};
 use forming::Member;
-use numbers::{Place, Refusal, Row, View};
+use numbers::{Place, Refusal, Row, View, ViewCount};
 
 // The sizes of a site: n controllers, and cap entries a book.
 #[derive(Clone, Copy)]
@@ -25,7 +25,7 @@ impl Sizes {
     fn view_is_below(self, view: View) -> bool
         ensures { result ≡ view_below self.n view }
     {
-        view.count.number <= 16_383 && view.controller.number < self.n
+        view.count.number <= ViewCount::LAST && view.controller.number < self.n
     }
 
     fn reply_is_ok(self, reply: Reply) -> bool

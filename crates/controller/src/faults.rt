@@ -7,7 +7,7 @@ use numbers::{ControllerNumber, Refusal};
 
 #[derive(Clone, Copy, PartialEq, Eq, Debug)]
 pub enum Fault {
-    // the cell has no writes left, and whose it is
+    // the cell has no writes left, and whose it is: of one number, but two things to be told
     Worn {
         cell: u16,
         controller: ControllerNumber,

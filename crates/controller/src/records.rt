@@ -7,7 +7,7 @@ use forming::Member;
 use numbers::{ControllerNumber, Row};
 
 // What a controller is at, with what belongs to it. Active is Backup or Primary.
-#[derive(Clone, Copy)]
+#[derive(Clone, Copy, PartialEq, Eq, Debug)]
 pub enum Status {
     Down,
     Waiting,
@@ -20,7 +20,7 @@ pub enum Status {
 
 // The views are those of the controller's cell while it is up. `primary` is that of the current view.
 // `complete` is a flag, and the length no `Option`: the rules keep both, and name both of a crash.
-#[derive(Clone, Copy)]
+#[derive(Clone, Copy, PartialEq, Eq, Debug)]
 pub struct Controller {
     pub status: Status,
     pub views: Row,
@@ -48,7 +48,7 @@ impl Controller {
             views: Row::ZERO,
             complete: false,
             length: 0,
-            primary: ControllerNumber { number: 0 },
+            primary: ControllerNumber::ZERO,
         }
     }
 

@@ -10,7 +10,8 @@ pub struct Slip {
     stamp: Stamp,
 }
 
-// What became of a slip. While it waits it is handed back.
+// What became of a slip. While it waits it is handed back. Beside `Verdict`, which is a plain value:
+// a slip can be neither copied nor dropped.
 pub enum Settled {
     Confirmed,
     Lost,

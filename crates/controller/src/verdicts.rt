@@ -1,5 +1,5 @@
 // What becomes of a slip: confirmed, lost or waiting.
-ghost use Rattle.std.specs.Prelude.{◌≡◌, ℕ, Bool, Option, take};
+ghost use Rattle.std.specs.Prelude.{◌≡◌, ℕ, Bool, Option};
 ghost use Rattle.std.specs.Fn.{FnReturnsAt};
 ghost use Rattle.forming.specs.Counting.{Answers};
 ghost use Rattle.controller.specs.Verdicts.{ThreeWays, holds as book_holds, is_confirmed, is_lost, judged, most as most_of, settled, verdict_of, with_slip};
@@ -21,14 +21,8 @@ pub enum Verdict {
     Waiting,
 }
 
-// The lengths of the site's controllers, which are the first n of the table.
-fn of_site(me: Member, lengths: &[Option<u16>; 7]) -> &[Option<u16>]
-    ensures { result.now ≡ take me.n lengths.now }
-{
-    &lengths[..me.n() as usize]
-}
-
 // Whether a majority of the lengths that a primary has passes a test.
+#[tactic(auto, unfolding(crate::specs::Verdicts::lengths_of))]
 fn most<F: Fn(&Option<u16>) -> bool>(me: Member, row: &Controller, test: F) -> bool
     requires { F.IsAlwaysCallable test }
     ensures { (passes : Option ℕ → Bool) → Answers (FnReturnsAt F.Fn test) passes → result ≡ most_of me.n passes row.now }
@@ -36,7 +30,7 @@ fn most<F: Fn(&Option<u16>) -> bool>(me: Member, row: &Controller, test: F) -> b
     let Status::Primary { lengths } = row.status else {
         return false;
     };
-    count(of_site(me, &lengths), test) >= majority(me.n()) as usize
+    count(me.of_site(&lengths), test) >= majority(me.n()) as usize
 }
 
 // Whether the book holds the entry of a stamp.

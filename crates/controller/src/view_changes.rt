@@ -51,7 +51,7 @@ pub fn call<C: Cabinet>(me: Member, row: &mut Controller, cab: &mut C) -> Result
 {
     ask(me, row.is_up(), Refusal::WrongPower)?;
     let count = row.views.promised.count.number;
-    ask(me, count < 16_383, Refusal::CountsSpent)?;
+    ask(me, count < ViewCount::LAST, Refusal::CountsSpent)?;
     let promised = View {
         count: ViewCount { number: count + 1 },
         controller: me.number(),
@@ -88,6 +88,7 @@ pub fn invite<E>(
 }
 
 // The controller that the rules choose from the answers counted.
+#[tactic(auto, unfolding(crate::specs::ViewChanges::form_choice))]
 fn chosen(me: Member, row: &Controller) -> Option<ControllerNumber>
     ensures { result ≡ form_choice me.n row.now }
 {

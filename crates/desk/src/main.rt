@@ -22,6 +22,8 @@ fn note<E: Kind + Drop>(book: &mut Vec<Entry<E>>, change: E) -> Result<(), Alloc
     })
 }
 
+// The words stand here: a `Display` of another crate's `Answer` can't; `script_desk`, another program,
+// has its own.
 fn say(rt: &HostRuntime, answer: Answer) -> anyhow::Result<()> {
     let word = match answer {
         Answer::Green => "green",

@@ -12,17 +12,10 @@ pub enum Order {
     AskDoor(Question),
     // a cell, and the row to put into it
     Cell(u16, Option<Row>),
+    // an order like the others, since `FromStr` gives one
     Remark,
     // no error of the reading, which would end the desk: the line is answered like the others
     Unknown,
-}
-
-// Any numbers: `View::new` refuses those out of range, and a record of them is to be refused.
-fn view(count: u16, controller: u16) -> View {
-    View {
-        count: ViewCount { number: count },
-        controller: ControllerNumber { number: controller },
-    }
 }
 
 // A line is a word and five numbers, of which those that are missing are 0; what follows is not
@@ -41,6 +34,7 @@ impl FromStr for Order {
             *number = text.parse()?;
         }
         let [first, second, third, fourth, fifth] = numbers;
+        // a `match`, since a table of words would hold closures and be no shorter
         Ok(match word {
             "give" | "withdraw" => Order::Card(CardChange {
                 card: first,
@@ -57,8 +51,8 @@ impl FromStr for Order {
             "put" => Order::Cell(
                 first,
                 Some(Row {
-                    current: view(second, third),
-                    promised: view(fourth, fifth),
+                    current: View::of(second, third),
+                    promised: View::of(fourth, fifth),
                 }),
             ),
             "cell" => Order::Cell(first, None),

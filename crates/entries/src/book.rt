@@ -2,14 +2,14 @@
 use numbers::{ControllerNumber, Place, View};
 
 // One entry of a book: a change, and the view that it was taken in.
-#[derive(Clone, Copy)]
+#[derive(Clone, Copy, PartialEq, Eq, Debug)]
 pub struct Entry<E> {
     pub view: View,
     pub change: E,
 }
 
 // What a controller that promised a new view says of itself.
-#[derive(Clone, Copy)]
+#[derive(Clone, Copy, PartialEq, Eq, Debug)]
 pub enum Reply {
     // its book is complete: its current view, its length, and whether it is that view's primary
     Normal {
@@ -24,7 +24,7 @@ pub enum Reply {
 }
 
 // What a message says.
-#[derive(Clone, Copy)]
+#[derive(Clone, Copy, PartialEq, Eq, Debug)]
 pub enum Body<E> {
     // promise this view
     Invitation,
@@ -38,7 +38,7 @@ pub enum Body<E> {
     Acknowledgement { length: u16 },
 }
 
-#[derive(Clone, Copy)]
+#[derive(Clone, Copy, PartialEq, Eq, Debug)]
 pub struct Message<E> {
     pub sender: ControllerNumber,
     pub addressee: ControllerNumber,

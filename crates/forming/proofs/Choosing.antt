@@ -1,5 +1,5 @@
 -- What the choice comes to, step by step. Assumes nothing.
-use Rattle.std.proofs.Common.{◌≡◌, ℕ, ◌-◌, ◌≤◌, true, false, cond, leb, List, get_or, take, Some, None, Option, sym, ap, ◌∙◌, arith, rules}
+use Rattle.std.proofs.Common.{◌≡◌, ℕ, ◌≤◌, true, false, cond, leb, List, get_or, Some, None, Option, sym, ap, ◌∙◌, rules}
 use Rattle.numbers.specs.declared.views.View.{View}
 use Rattle.numbers.specs.Majorities.{majority_of}
 use Rattle.entries.specs.declared.book.Reply.{Reply}
@@ -18,7 +18,3 @@ module _ (answers : List (Option Reply)) (n c : ℕ) (v : View) (most : majority
 
   pub choice_refused : some_rule answers n v ≡ false → choice answers n ≡ None
   choice_refused rule = begun ∙ ap (λ x. cond (some_rule answers n x) (Some c) None) (sym there) ∙ ap (λ b. cond b (Some c) None) rule
-
--- the first n, as a part of a table from its start is written
-pub same_front : (answers : List (Option Reply)) (m n : ℕ) → m ≡ n → choice (take (m - 0) answers) m ≡ choice (take n answers) n
-same_front answers m n e = ap (λ k. choice (take k answers) m) (omega arith) ∙ ap (λ k. choice (take n answers) k) e

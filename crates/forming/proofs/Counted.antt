@@ -1,19 +1,14 @@
 -- One element further in a count, and what the answer of a count or a search says of each element. Assumes nothing.
 use Rattle.std.proofs.Common.{◌≡◌, ℕ, zero, suc, ◌+◌, ◌<◌, ◌≤◌, Bool, true, false, cond, List, [], ◌∷◌, length, get_or, drop, Some, None, Option, sym, refl, ap, ◌∙◌, subst, inl, inr, suc-le-suc, le_of_suc-le-suc, not-suc-le-zero, zero-lt-suc, arith}
 use Rattle.std.proofs.lemmas.List.{drop_more}
+use Rattle.std.proofs.lemmas.Option.{none-some, same_Some}
 use Rattle.std.proofs.lemmas.Bool.{or_parts, or_cases, cases_Bool, false≢true}
 use Rattle.std.proofs.lemmas.List.Recursion.{and_at, and_from_places, or_at}
 use Rattle.forming.specs.Counting.{count, every, some, first, first_from}
 
-made_none : {A : Type 0} (a : A) → Some a ≡ None → ⊥
-made_none a h = let z : ◌≡◌ {A = ℕ} 0 1 = cc in omega arith
-
-made_same : {A : Type 0} (a b : A) → Some a ≡ Some b → b ≡ a
-made_same a b h = cc
-
 -- the list has what is read as one that is there
 pub get_or_within : {A : Type 0} (xs : List (Option A)) (i : ℕ) (a : A) → get_or xs i None ≡ Some a → i < length xs
-get_or_within [] i a h = absurd (made_none a (sym h))
+get_or_within [] i a h = absurd (none-some a h)
 get_or_within (x ∷ xs) zero a h = zero-lt-suc (length xs)
 get_or_within (x ∷ xs) (suc i) a h = suc-le-suc (get_or_within xs i a h)
 
@@ -74,10 +69,10 @@ module _ {A : Type 0} (test : A → Bool) where
       ((suc-le-suc p.0.0, p.0.1), elim [ zero ↦ λ lt. e | suc i ↦ λ lt. p.1 i (le_of_suc-le-suc lt) ])
 
   first_from_some : (k : ℕ) (xs : List A) (d : A) (c : ℕ) → first_from test k xs ≡ Some c → (i : ℕ) × (c ≡ k + i) × FirstAt xs d i
-  first_from_some k [] d c h = absurd (made_none c (sym h))
+  first_from_some k [] d c h = absurd (none-some c h)
   first_from_some k (x ∷ xs) d c h =
       elim (cases_Bool (test x)) [
-        | inl e ↦ (let same : c ≡ k = made_same k c (subst (λ b. cond b (Some k) (first_from test (k + 1) xs) ≡ Some c) e h) in (zero, omega arith, ((zero-lt-suc (length xs), e), λ i lt. absurd (not-suc-le-zero lt))))
+        | inl e ↦ (let same : k ≡ c = same_Some k c (subst (λ b. cond b (Some k) (first_from test (k + 1) xs) ≡ Some c) e h) in (zero, omega arith, ((zero-lt-suc (length xs), e), λ i lt. absurd (not-suc-le-zero lt))))
         | inr e ↦ (let more : (i : ℕ) × (c ≡ k + 1 + i) × FirstAt xs d i = first_from_some (k + 1) xs d c (subst (λ b. cond b (Some k) (first_from test (k + 1) xs) ≡ Some c) e h) in (suc more.0, omega arith, first_later x xs d more.0 e more.2))
       ]
 
@@ -90,10 +85,10 @@ module _ {A : Type 0} (test : A → Bool) where
 
   first_from_none : (k : ℕ) (xs : List A) (i : ℕ) (d : A) → first_from test k xs ≡ None → i < length xs → test (get_or xs i d) ≡ false
   first_from_none k [] i d h lt = absurd (not-suc-le-zero lt)
-  first_from_none k (x ∷ xs) zero d h lt = elim (cases_Bool (test x)) [ inl e ↦ absurd (made_none k (subst (λ b. cond b (Some k) (first_from test (k + 1) xs) ≡ None) e h)) | inr e ↦ e ]
+  first_from_none k (x ∷ xs) zero d h lt = elim (cases_Bool (test x)) [ inl e ↦ absurd (none-some k (sym (subst (λ b. cond b (Some k) (first_from test (k + 1) xs) ≡ None) e h))) | inr e ↦ e ]
   first_from_none k (x ∷ xs) (suc i) d h lt =
       elim (cases_Bool (test x)) [
-        | inl e ↦ absurd (made_none k (subst (λ b. cond b (Some k) (first_from test (k + 1) xs) ≡ None) e h))
+        | inl e ↦ absurd (none-some k (sym (subst (λ b. cond b (Some k) (first_from test (k + 1) xs) ≡ None) e h)))
         | inr e ↦ first_from_none (k + 1) xs i d (subst (λ b. cond b (Some k) (first_from test (k + 1) xs) ≡ None) e h) (le_of_suc-le-suc lt)
       ]
 

@@ -1,10 +1,11 @@
-// Counting and searching a table by a test, which is a closure.
+// Counting and searching a table by a test, which is a closure that may be called on anything: std's
+// searches, with contracts by the words that the rules use.
 ghost use Rattle.std.specs.Prelude.{◌≡◌, ◌<◌, Bool, length, IfSome};
 ghost use Rattle.std.specs.Fn.{FnReturnsAt};
 ghost use Rattle.forming.specs.Counting.{Answers, count as count_of, every as every_of, some as some_of, first as first_of};
 
-// How many pass the test. A loop: the closure of a `filter` would call `test`, and what it gives
-// could not be proved from that.
+// How many pass the test. A loop: behind the closure of a `filter` that calls `test` its answers were
+// not known, and a `filter` of the answers of `map(&test)` reads no plainer.
 pub fn count<A, F: Fn(&A) -> bool>(xs: &[A], test: F) -> usize
     requires { F.IsAlwaysCallable test }
     ensures { (passes : A → Bool) → Answers (FnReturnsAt F.Fn test) passes → result ≡ count_of passes xs.now }

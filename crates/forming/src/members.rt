@@ -1,11 +1,11 @@
 // A member: a controller number that is below n, where n is at most 7.
-ghost use Rattle.std.specs.Prelude.{◌≡◌, ◌<◌, ◌≤◌, true, false, MatchResult};
+ghost use Rattle.std.specs.Prelude.{◌≡◌, ◌<◌, ◌≤◌, true, false, take, MatchResult};
 ghost use Rattle.numbers.specs.Refusals.{refusal};
 
 use numbers::{ControllerNumber, Refusal};
 
 // Whoever has a member may rely on its number without a test.
-#[derive(Clone, Copy)]
+#[derive(Clone, Copy, PartialEq, Eq, Debug)]
 pub struct Member {
     number: ControllerNumber,
     n: u16,
@@ -38,6 +38,13 @@ impl Member {
         ensures few { result ≤ 7 }
     {
         self.n
+    }
+
+    // The first n of a table of seven, which are those of the site's controllers.
+    pub fn of_site<A>(self, table: &[A; 7]) -> &[A]
+        ensures { result.now ≡ take self.n table.now }
+    {
+        &table[..self.n as usize]
     }
 
     // The number as an index into a table of seven.

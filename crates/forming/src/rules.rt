@@ -1,4 +1,5 @@
-// The rules by which a manager forms a view from the answers to its call.
+// The rules by which a manager forms a view from the answers to its call. The answers, n and a view
+// stay parameters, as the definitions take them: a struct of them would say no more.
 ghost use Rattle.std.specs.Prelude.{◌≡◌, ◌<◌, ◌≤◌, length, take, IfSome, nat_le};
 ghost use Rattle.numbers.specs.Majorities.{majority_of};
 ghost use Rattle.forming.specs.Counting.{count as count_of, every as every_of, some as some_of};
@@ -88,7 +89,7 @@ fn has_crashed(answers: &[Option<Reply>], view: View) -> bool
     })
 }
 
-// No crash answer is of a later view.
+// No crash answer is of a later view: the second rule's word with `<=`, and a definition of its own.
 fn crashed_by(answers: &[Option<Reply>], view: View) -> bool
     ensures { result ≡ every_of (crashed_until view) answers.now }
 {
@@ -98,7 +99,7 @@ fn crashed_by(answers: &[Option<Reply>], view: View) -> bool
     })
 }
 
-// The primary of the view answered normally.
+// The primary of the view answered normally: a word of the third rule, as `has_crashed` is.
 fn is_led(answers: &[Option<Reply>], view: View) -> bool
     ensures { result ≡ some_of (leads view) answers.now }
 {
@@ -144,6 +145,5 @@ pub fn choice_of_first(me: Member, answers: [Option<Reply>; 7]) -> Option<usize>
     ensures value { result ≡ choice_of (take me.n answers) me.n }
     ensures within { IfSome result (λ c. c < 7) }
 {
-    let n = me.n();
-    choice(n, &answers[0..n as usize])
+    choice(me.n(), me.of_site(&answers))
 }

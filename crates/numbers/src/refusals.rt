@@ -40,7 +40,8 @@ pub enum Refusal {
     BadForm,
 }
 
-// The number by which users know the refusal.
+// The number by which users know the refusal. A `match`, and no `as u8`, of which a proof could not
+// name the numbers.
 impl From<Refusal> for u8 {
     ghost use Rattle.numbers.specs.Refusals.{number_of, refusal};
 

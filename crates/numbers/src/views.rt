@@ -50,6 +50,8 @@ fn within(number: u16, least: u16, most: u16) -> Result<u16, Refusal>
     }
 }
 
+// Three conversions, one for each type, since no macro writes a clause.
+
 // The place of that number; refused at 0.
 impl TryFrom<u16> for Place {
     ghost use Rattle.numbers.specs.Views.{place_of, place_ok};
@@ -73,7 +75,7 @@ impl TryFrom<u16> for ViewCount {
     ghost try_from_gives = { λ number r. r ≡ (if count_ok (count_of number) then Ok (count_of number) else Err (refusal 17)) };
 
     fn try_from(number: u16) -> Result<ViewCount, Refusal> {
-        let number = within(number, 0, 16_383)?;
+        let number = within(number, 0, ViewCount::LAST)?;
         Ok(ViewCount { number })
     }
 }
@@ -87,9 +89,19 @@ impl TryFrom<u16> for ControllerNumber {
     ghost try_from_gives = { λ number r. r ≡ (if controller_ok (controller_of number) then Ok (controller_of number) else Err (refusal 17)) };
 
     fn try_from(number: u16) -> Result<ControllerNumber, Refusal> {
-        let number = within(number, 0, 6)?;
+        let number = within(number, 0, ControllerNumber::LAST)?;
         Ok(ControllerNumber { number })
     }
+}
+
+impl ViewCount {
+    pub const LAST: u16 = 16_383;
+}
+
+impl ControllerNumber {
+    pub const ZERO: ControllerNumber = ControllerNumber { number: 0 };
+
+    pub const LAST: u16 = 6;
 }
 
 impl View {
@@ -98,8 +110,18 @@ impl View {
     // The first view, which make opens.
     pub const ZERO: View = View {
         count: ViewCount { number: 0 },
-        controller: ControllerNumber { number: 0 },
+        controller: ControllerNumber::ZERO,
     };
+
+    // The view of any two numbers, in range or not, as lent memory may hold it.
+    pub fn of(count: u16, controller: u16) -> View
+        ensures { result ≡ view_of count controller }
+    {
+        View {
+            count: ViewCount { number: count },
+            controller: ControllerNumber { number: controller },
+        }
+    }
 
     // The view of a count and a controller number; refused where either is out of range.
     pub fn new(count: u16, controller: u16) -> Result<View, Refusal>
@@ -114,17 +136,17 @@ impl View {
     pub fn is_ok(self) -> bool
         ensures { result ≡ view_ok self }
     {
-        self.count.number <= 16_383 && self.controller.number <= 6
+        self.count.number <= ViewCount::LAST && self.controller.number <= ControllerNumber::LAST
     }
 
-    // Whether this view is earlier than the other, as `<` says.
+    // Whether this view is earlier than the other: `<`, in the rules' word.
     pub fn is_earlier(self, other: View) -> bool
         ensures { result ≡ earlier self other }
     {
         self < other
     }
 
-    // Whether the two views are one, as `==` says.
+    // Whether the two views are one: `==`.
     pub fn is_same(self, other: View) -> bool
         ensures { result ≡ same_view self other }
     {

@@ -20,7 +20,7 @@ use Rattle.protocol.specs.Model.{
   crashed_earlier,
   primary_answered,
 }
-use Rattle.protocol.proofs.Cases.{false_not_true, lt_or_le}
+use Rattle.std.proofs.lemmas.Bool.{false≢true, cases_lt}
 use Rattle.protocol.proofs.Invariant.{AnswerOk, Blocked, Carries, FloorOk, Invariant, NormalOk, Safe, SafeTo}
 
 module _ {E : Type 0} where
@@ -32,7 +32,7 @@ module _ {E : Type 0} where
     module _ (w k : ℕ) (w_before : w < v) (w_from : x ≤ w) (past_best : w ≤ x → l < k) where
       -- a replica that was never in w is not past k there
       unless_in : (d : ℕ) → (1 ≤ (s.replicas d).floor w → (s.replicas d).floor w ≤ k) → (s.replicas d).floor w ≤ k
-      unless_in d h = go (lt_or_le 0 ((s.replicas d).floor w))
+      unless_in d h = go (cases_lt 0 ((s.replicas d).floor w))
         where
           go : (0 < (s.replicas d).floor w) ⊎ ((s.replicas d).floor w ≤ 0) → (s.replicas d).floor w ≤ k
           go (inl z) = h z
@@ -73,21 +73,21 @@ module _ {E : Type 0} where
       }
         where
           moved : (d : ℕ) (b : Answer) → a d ≡ b → is_answer b ≡ true → w < (s.replicas d).promised
-          moved d none e q = absurd (false_not_true q)
+          moved d none e q = absurd (false≢true q)
           moved d (crashed u) e q = omega (arith, (ok_of d (crashed u) e).past)
           moved d (normal u m p) e q = omega (arith, (ok_of d (normal u m p) e).past)
 
           behind : (d : ℕ) → d < n → who d ≡ true → (b : Answer) → a d ≡ b → is_answer b ≡ true → (s.replicas d).floor w ≤ k
-          behind d hd h none e q = absurd (false_not_true q)
+          behind d hd h none e q = absurd (false≢true q)
           behind d hd h (crashed u) e q = crashed_behind d hd h u e
           behind d hd h (normal u m p) e q = normal_behind d hd u m p e
 
       blocked : Rule n a x → Blocked n s.replicas w k
       blocked (normal_majority most) = blocked_by (λ d. is_normal (a d)) most (λ d q. answers (a d) q)
-          (λ d hd q u e. absurd (false_not_true (sym (ap is_normal e) ∙ q)))
+          (λ d hd q u e. absurd (false≢true (sym (ap is_normal e) ∙ q)))
         where
           answers : (b : Answer) → is_normal b ≡ true → is_answer b ≡ true
-          answers none q = absurd (false_not_true q)
+          answers none q = absurd (false≢true q)
           answers (crashed u) q = refl
           answers (normal u m p) q = refl
       blocked (crashed_earlier most all) = blocked_by (λ d. is_answer (a d)) most (λ d q. q) (λ d hd q u e. crashed_before d u e (all d hd u e))
@@ -98,7 +98,7 @@ module _ {E : Type 0} where
     pub chosen_safe : Rule n a x → (c : ℕ) (p : Bool) → a c ≡ normal x l p
         → Idle (s.replicas c).status → (s.replicas c).complete ≡ true → (s.replicas c).promised ≡ v
         → (w : ℕ) → w < v → Safe n s w (s.replicas c).length (s.replicas c).book
-    chosen_safe rule c p e idle complete here w w_before k = split (lt_or_le w x)
+    chosen_safe rule c p e idle complete here w w_before k = split (cases_lt w x)
       where
         ok_c : NormalOk s c v x l p
         ok_c = ok_of c (normal x l p) e
@@ -128,7 +128,7 @@ module _ {E : Type 0} where
           in_log = g.in_log;
           in_book = omega (arith, g.in_book, fl.above, ok_c.at_floor, length_is);
           same = λ j b. opened_with j (omega (arith, g.in_book)) ∙ g.same j b;
-          late = λ j b b2. late j b b2 (lt_or_le j (s.views x).opening_length);
+          late = λ j b b2. late j b b2 (cases_lt j (s.views x).opening_length);
         })
           where
             late : (j : ℕ) → (s.views w).opening_length ≤ j → j < (s.replicas c).length → (j < (s.views x).opening_length) ⊎ ((s.views x).opening_length ≤ j) → w ≤ ((s.replicas c).book j).view
@@ -147,8 +147,8 @@ module _ {E : Type 0} where
 
         from : x ≤ w → (x < w) ⊎ (w ≤ x) → SafeTo n s w k (s.replicas c).length (s.replicas c).book
         from h (inl g) = inr (blocked w k w_before h (λ t. absurd (omega arith)) rule)
-        from h (inr g) = exact (omega arith) (lt_or_le (s.replicas c).length k)
+        from h (inr g) = exact (omega arith) (cases_lt (s.replicas c).length k)
 
         split : (w < x) ⊎ (x ≤ w) → SafeTo n s w k (s.replicas c).length (s.replicas c).book
         split (inl h) = earlier h ((inv.view_ok x).safe fl.opens w h k)
-        split (inr h) = from h (lt_or_le x w)
+        split (inr h) = from h (cases_lt x w)

@@ -5,13 +5,13 @@ use Prim.Native.Nat.{ℕ, suc, ◌≤◌, ◌<◌}
 use native.Mathlib.Omega.{arith}
 use Rattle.protocol.specs.Updates.{upd_all}
 use Rattle.protocol.specs.Model.{Entry, Site, entering}
-use Rattle.protocol.proofs.Cases.{lt_or_le}
+use Rattle.std.proofs.lemmas.Bool.{cases_lt}
 use Rattle.protocol.proofs.Invariant.{Invariant}
 use Rattle.protocol.proofs.Growth.{ReplicaGrows}
 
 module _ {E : Type 0} (n : ℕ) (s : Site E) (inv : Invariant n s) where
   pub no_floor : (c v : ℕ) → (s.replicas c).current < v → (s.replicas c).floor v ≡ 0
-  no_floor c v h = go (lt_or_le 0 ((s.replicas c).floor v))
+  no_floor c v h = go (cases_lt 0 ((s.replicas c).floor v))
     where
       go : (0 < (s.replicas c).floor v) ⊎ ((s.replicas c).floor v ≤ 0) → (s.replicas c).floor v ≡ 0
       go (inr k) = omega arith

@@ -4,7 +4,7 @@ use mathlib.Core.Logic.{◌≢◌}
 use Prim.Native.Nat.{ℕ}
 use native.Mathlib.Omega.{arith}
 use Rattle.protocol.specs.Model.{Status, active, manager, Site, forgetting, with_replica}
-use Rattle.protocol.proofs.Cases.{false_not_true}
+use Rattle.std.proofs.lemmas.Bool.{false≢true}
 use Rattle.protocol.proofs.Invariant.{Invariant}
 use Rattle.protocol.proofs.Growth.{ReplicaGrows, grows_replica}
 use Rattle.protocol.proofs.Stable.{floor_stable}
@@ -20,18 +20,18 @@ module _ {E : Type 0} (n : ℕ) (s : Site E) (inv : Invariant n s) where
         promised_up = omega arith;
         floor_up = λ w. omega arith;
         floor_fix = λ w h. refl;
-        still = λ a f. absurd (false_not_true f);
+        still = λ a f. absurd (false≢true f);
       } in
       let grows = grows_replica s i r' s.pool s.history forgets in
       let h = inv.replica_ok i in
       step_replica n s inv i r' s.pool forgets (record {
         ordered = h.ordered;
-        idle = λ a f. absurd (false_not_true f);
+        idle = λ a f. absurd (false≢true f);
         active_complete = λ a. absurd (not_active a);
         active_current = λ a. absurd (not_active a);
-        knows_primary = λ f. absurd (false_not_true f);
-        at_floor = λ f. absurd (false_not_true f);
-        begins_log = λ f. absurd (false_not_true f);
+        knows_primary = λ f. absurd (false≢true f);
+        at_floor = λ f. absurd (false≢true f);
+        begins_log = λ f. absurd (false≢true f);
         floors = λ w k. floor_stable s t' grows (h.floors w k);
         answers_ok = λ a. absurd (not_manager a);
         own_view = λ a. absurd (not_manager a);

@@ -7,7 +7,7 @@ use native.Mathlib.Omega.{arith}
 use Rattle.protocol.specs.Members.{Member}
 use Rattle.protocol.specs.Model.{Entry, Event, handed, opening, looked_up, confirmed, lost, Site}
 use Rattle.protocol.specs.Guarantee.{Keeps, OneList}
-use Rattle.protocol.proofs.Cases.{lt_or_le}
+use Rattle.std.proofs.lemmas.Bool.{cases_lt}
 use Rattle.protocol.proofs.Invariant.{ConfirmedOk, EventOk, Invariant, LostOk}
 use Rattle.protocol.proofs.Survival.{confirmed_kept, not_both}
 
@@ -21,7 +21,7 @@ module _ {E : Type 0} (n : ℕ) (s : Site E) (inv : Invariant n s) where
 
   agree : (w k : ℕ) (f : ℕ → Entry E) (v m : ℕ) (g : ℕ → Entry E) → ConfirmedOk n s w k f → ConfirmedOk n s v m g
       → (j : ℕ) → j < k → j < m → g j ≡ f j
-  agree w k f v m g c d j a b = go (lt_or_le w v) (lt_or_le v w)
+  agree w k f v m g c d j a b = go (cases_lt w v) (cases_lt v w)
     where
       go : (w < v) ⊎ (v ≤ w) → (v < w) ⊎ (w ≤ v) → g j ≡ f j
       go (inl h) _ = agree_later w k f v m g c d h j a b
@@ -70,7 +70,7 @@ module _ {E : Type 0} (n : ℕ) (s : Site E) (inv : Invariant n s) where
   with_event (opening w l f) xs ok m = same_longest (opening w l f) xs m (omega arith)
   with_event (looked_up w l f) xs ok m = same_longest (looked_up w l f) xs m (omega arith)
   with_event (lost w z k) xs ok m = same_longest (lost w z k) xs m (omega arith)
-  with_event (confirmed w k f) xs ok m = go (lt_or_le m.length k)
+  with_event (confirmed w k f) xs ok m = go (cases_lt m.length k)
     where
       go : (m.length < k) ⊎ (k ≤ m.length) → Longest (confirmed w k f ∷ xs)
       go (inl h) = new_longest w k f xs ok m h

@@ -9,7 +9,8 @@ use Rattle.protocol.specs.Members.{Member}
 use Rattle.protocol.specs.Views.{caller_of}
 use Rattle.protocol.specs.Model.{waiting, Entry, Replica, View, formation, opening, Site, Idle, entering, opening_by, after_formation}
 use Rattle.protocol.specs.Guarantee.{handed_with}
-use Rattle.protocol.proofs.Cases.{active_not_manager, lt_or_le}
+use Rattle.std.proofs.lemmas.Bool.{cases_lt}
+use Rattle.protocol.proofs.Cases.{active_not_manager}
 use Rattle.protocol.proofs.Invariant.{FloorOk, FormationOk, Invariant, Source, StampOk, ViewOk}
 use Rattle.protocol.proofs.Growth.{Grows, grows_view}
 use Rattle.protocol.proofs.Stable.{floor_stable, safe_stable, source_stable}
@@ -44,7 +45,7 @@ module _ {E : Type 0} (n : ℕ) (s : Site E) (inv : Invariant n s) where
     later = omega (arith, (inv.replica_ok c).idle idle_now complete)
 
     not_open : (s.views v).opened_by ≡ 0
-    not_open = go (lt_or_le 0 (s.views v).opened_by)
+    not_open = go (cases_lt 0 (s.views v).opened_by)
       where
         go : (0 < (s.views v).opened_by) ⊎ ((s.views v).opened_by ≤ 0) → (s.views v).opened_by ≡ 0
         go (inr k) = omega arith

@@ -28,7 +28,8 @@ use Rattle.protocol.specs.Model.{
   after_call,
   after_invitation,
 }
-use Rattle.protocol.proofs.Cases.{eqb_is, lt_or_le, manager_not_active, waiting_not_active, waiting_not_manager}
+use Rattle.std.proofs.lemmas.Bool.{eqb-true, cases_lt}
+use Rattle.protocol.proofs.Cases.{manager_not_active, waiting_not_active, waiting_not_manager}
 use Rattle.protocol.proofs.Invariant.{AnswerOk, Invariant, MessageOk}
 use Rattle.protocol.proofs.Growth.{Grows, ReplicaGrows, grows_replica, site}
 use Rattle.protocol.proofs.Stable.{begins_log_stable, floor_stable, knows_primary_stable}
@@ -51,7 +52,7 @@ module _ {E : Type 0} (n : ℕ) (s : Site E) (inv : Invariant n s) where
         upto = upto;
         before = omega (arith, (inv.replica_ok c).ordered);
         at_floor = ap (λ g. g (s.replicas c).current) floor_is ∙ (inv.replica_ok c).at_floor f;
-        leads = λ e. knows_primary_stable s s' grows (s.replicas c) (inv.replica_ok c) f ∙ ap suc (eqb_is (s.replicas c).primary c e);
+        leads = λ e. knows_primary_stable s s' grows (s.replicas c) (inv.replica_ok c) f ∙ ap suc (eqb-true (s.replicas c).primary c e);
         kept = λ _ _ _. current_is;
       }
       go false f = record { past = omega arith; upto = upto }
@@ -112,7 +113,7 @@ module _ {E : Type 0} (n : ℕ) (s : Site E) (inv : Invariant n s) where
       promise_ok i manager v a s.pool up (λ e. manager_not_active e)
       (λ _. upd_all (λ d b. AnswerOk (after_call s i) d v b) (λ _. none) i (answer_of i (s.replicas i)) (own_answer i manager v a s.pool up) (λ d _. tt))
       (λ _. next_own (s.replicas i) i h)
-      (λ _. unformed (lt_or_le 0 (s.views v).formed_for))
+      (λ _. unformed (cases_lt 0 (s.views v).formed_for))
       (messages_still n s inv (after_call s i) (site_grows i manager v a s.pool up))
     where
       v : ℕ

@@ -44,7 +44,8 @@ use Rattle.protocol.specs.Model.{
   then,
 }
 use Rattle.protocol.specs.Guarantee.{handed_with}
-use Rattle.protocol.proofs.Cases.{active_not_manager, down_not_active, down_not_manager, false_not_true, waiting_not_active, waiting_not_manager}
+use Rattle.std.proofs.lemmas.Bool.{false≢true}
+use Rattle.protocol.proofs.Cases.{active_not_manager, down_not_active, down_not_manager, waiting_not_active, waiting_not_manager}
 use Rattle.protocol.proofs.Invariant.{EventOk, FloorOk, Invariant, OpeningOk, ReplicaOk, StampOk, ViewOk}
 use Rattle.protocol.proofs.Sending.{invite_ok, lose_ok, pass_ok}
 use Rattle.protocol.proofs.Settling.{confirmed_ok, lookup_ok, lost_ok}
@@ -103,7 +104,7 @@ module _ {E : Type 0} where
           active_complete = λ a. absurd (down_not_active a);
           active_current = λ a. refl;
           knows_primary = λ g. ap (λ y. y.opened_by) view_is;
-          at_floor = λ g. absurd (false_not_true g);
+          at_floor = λ g. absurd (false≢true g);
           begins_log = λ g j k. absurd (omega arith);
           floors = λ w k. absurd (omega arith);
           answers_ok = λ a. absurd (down_not_manager a);

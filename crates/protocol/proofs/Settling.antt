@@ -6,7 +6,7 @@ use native.Mathlib.Omega.{arith}
 use lib.Dec.{ltb}
 use Rattle.protocol.specs.Majorities.{Majority}
 use Rattle.protocol.specs.Model.{active, looked_up, confirmed, lost, Site, note, IsPrimary}
-use Rattle.protocol.proofs.Cases.{ltb_is}
+use Rattle.std.proofs.lemmas.Bool.{ltb-true}
 use Rattle.protocol.proofs.Invariant.{Invariant}
 use Rattle.protocol.proofs.Frame.{step_event}
 use Rattle.protocol.proofs.Active.{active_book, whole_log}
@@ -30,7 +30,7 @@ module _ {E : Type 0} (n : ℕ) (s : Site E) (inv : Invariant n s) where
         same = λ j a. r.begins_log j (omega arith);
         who = λ d. ltb (suc k) ((s.replicas i).acknowledged d);
         most = most;
-        have = λ c a b. omega (arith, ltb_is (suc k) ((s.replicas i).acknowledged c) b, (inv.replica_ok i).acknowledged_ok p.is_active p.is_primary c);
+        have = λ c a b. omega (arith, ltb-true (suc k) ((s.replicas i).acknowledged c) b, (inv.replica_ok i).acknowledged_ok p.is_active p.is_primary c);
       })
       inv.stamp_ok
 
@@ -47,6 +47,6 @@ module _ {E : Type 0} (n : ℕ) (s : Site E) (inv : Invariant n s) where
             no_such b (ap (λ x. x.view) (r.begins_log k b) ∙ e);
         who = λ d. ltb 0 ((s.replicas i).acknowledged d);
         most = most;
-        have = λ c a b. omega (arith, ltb_is 0 ((s.replicas i).acknowledged c) b, (inv.replica_ok i).acknowledged_ok p.is_active p.is_primary c);
+        have = λ c a b. omega (arith, ltb-true 0 ((s.replicas i).acknowledged c) b, (inv.replica_ok i).acknowledged_ok p.is_active p.is_primary c);
       })
       inv.stamp_ok

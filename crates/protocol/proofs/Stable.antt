@@ -30,7 +30,7 @@ use Rattle.protocol.specs.Model.{
   Opened,
   Idle,
 }
-use Rattle.protocol.proofs.Cases.{lt_or_le}
+use Rattle.std.proofs.lemmas.Bool.{cases_lt}
 use Rattle.protocol.proofs.Invariant.{AnswerOk, Blocked, Carries, EventOk, FloorOk, MessageOk, ReplicaOk, Safe, SafeTo, Source, ViewOk}
 use Rattle.protocol.proofs.Growth.{Grows, ReplicaGrows, SameBook, ViewGrows}
 
@@ -197,7 +197,7 @@ module _ {E : Type 0} where
     event_stable n view_ok' view_ok (lost w z k) h = record {
       opens = opens' w h.opens;
       later = h.later;
-      clear = λ a e. go a e (lt_or_le k (s.views w).log_length);
+      clear = λ a e. go a e (cases_lt k (s.views w).log_length);
       who = h.who;
       most = h.most;
       have = λ c a b. omega (arith, h.have c a b, (grows.replicas_grow c).floor_up w);

@@ -7,7 +7,7 @@ use native.Mathlib.Omega.{arith}
 use Rattle.protocol.specs.Majorities.{Majority, majorities_meet}
 use Rattle.protocol.specs.Model.{Entry, Site, Opened}
 use Rattle.protocol.specs.Guarantee.{Keeps}
-use Rattle.protocol.proofs.Cases.{lt_or_le}
+use Rattle.std.proofs.lemmas.Bool.{cases_lt}
 use Rattle.protocol.proofs.Invariant.{Carries, ConfirmedOk, Invariant, LookupOk, LostOk, OpeningOk, Safe, SafeTo}
 
 module _ {E : Type 0} (n : ℕ) (s : Site E) (inv : Invariant n s) where
@@ -34,7 +34,7 @@ module _ {E : Type 0} (n : ℕ) (s : Site E) (inv : Invariant n s) where
   lost_gone w z k v c o h a e =
       let g = carries w (s.views w).opening_length (s.views v).opening_length (s.views v).opening_book c.who c.most
       (λ d b q. ((inv.replica_ok d).floors w (c.have d b q)).above) ((inv.view_ok v).safe o w h) in
-      go g (lt_or_le k (s.views w).opening_length)
+      go g (cases_lt k (s.views w).opening_length)
     where
       go : Carries (s.views w) w (s.views w).opening_length (s.views v).opening_length (s.views v).opening_book
           → (k < (s.views w).opening_length) ⊎ ((s.views w).opening_length ≤ k) → ⊥
@@ -43,21 +43,21 @@ module _ {E : Type 0} (n : ℕ) (s : Site E) (inv : Invariant n s) where
 
   -- nor in the log of w or of a later v
   lost_not_in_log : (w z k v : ℕ) → LostOk n s w z k → Opened (s.views v) → w ≤ v → k < (s.views v).log_length → ((s.views v).log k).view ≢ z
-  lost_not_in_log w z k v c o h a e = go (lt_or_le w v)
+  lost_not_in_log w z k v c o h a e = go (cases_lt w v)
     where
       after : w < v → (k < (s.views v).opening_length) ⊎ ((s.views v).opening_length ≤ k) → ⊥
       after l (inl b) = lost_gone w z k v c o l b (ap (λ x. x.view) (sym ((inv.view_ok v).begins o k b)) ∙ e)
       after l (inr b) = omega (arith, (inv.view_ok v).stamps o k b a, c.later)
 
       go : (w < v) ⊎ (v ≤ w) → ⊥
-      go (inl l) = after l (lt_or_le k (s.views v).opening_length)
+      go (inl l) = after l (cases_lt k (s.views v).opening_length)
       go (inr l) =
           let q : v ≡ w = omega arith in
           c.clear (omega (arith, ap (λ x. (s.views x).log_length) q)) (ap (λ x. ((s.views x).log k).view) (sym q) ∙ e)
 
   -- nothing is both confirmed and lost
   pub not_both : (w z k v m : ℕ) (f : ℕ → Entry E) → LostOk n s w z k → ConfirmedOk n s v m f → k < m → (f k).view ≢ z
-  not_both w z k v m f c d a e = go (lt_or_le v w)
+  not_both w z k v m f c d a e = go (cases_lt v w)
     where
       before : v < w → ⊥
       before h =

@@ -11,6 +11,8 @@ use Rattle.entries.specs.declared.kinds.Answer.{Answer as Light}
 use Rattle.entries.specs.declared.kinds.Question.{Question}
 use Rattle.cabinet.specs.declared.cells.Cell.{Cell}
 use Rattle.cabinet.specs.Cells.{cell_at}
+use Rattle.cabinet.proofs.Blocks.{over_length, block_here}
+use Rattle.cabinet.proofs.Cuts.{parts_apart}
 use Rattle.controller.specs.declared.records.Controller.{Controller}
 use Rattle.controller.specs.Books.{item}
 use Rattle.controller.specs.Records.{down_record}
@@ -23,7 +25,7 @@ use Rattle.runs.specs.History.{Event}
 use Rattle.runs.proofs.Bond.{Bond, EventR, ReplicaR, the_message}
 use Rattle.runs.proofs.Items.{item_set_other, item_set_same}
 use Rattle.runs.proofs.Members.{member_front, member_last}
-use Rattle.runs.proofs.Parts.{part_ends, part_long, with_part_long, with_part_other, with_part_same}
+use Rattle.runs.proofs.Parts.{part_long, with_part_other}
 
 -- the same of what equals a controller's record, row and part
 pub replica_as : {E : Type 0} (n c : ℕ) (x y : Controller) (v w : Row) (a b : List (Entry E)) (r : Replica E)
@@ -34,7 +36,7 @@ replica_as n c x y v w a b r same_x same_v same_a h =
 module _ {E : Type 0} (says : E → Question → Option Light) (unsettled : Light) (n : ℕ) (s : State E) (h : List (Event E)) (m : Site E) (bond : Bond says unsettled n s h m) where
   -- i's part is within the books
   fits : (i : ControllerNumber) → i.number < n → i.number * s.site.cap + s.site.cap ≤ length s.books
-  fits i below = omega (arith, part_ends i.number n s.site.cap below, bond.books_long)
+  fits i below = omega (arith, parts_apart i.number n s.site.cap below, bond.books_long)
 
   -- the record of i, the cells and the books changed, and no cell or part of another controller
   framed : (i : ControllerNumber) → i.number < n → (x : Controller) (cells : List Cell) (books : List (Entry E)) (r : Replica E) (views : ℕ → model.View E)
@@ -93,8 +95,8 @@ module _ {E : Type 0} (says : E → Question → Option Light) (unsettled : Ligh
       let cap : ℕ = s.site.cap in
       let within = fits i below in
       framed i below x cells (with_part s.books cap i.number b) r views long others
-      (with_part_long s.books cap i.number b within long_b) (with_part_other s.books cap i.number b within long_b)
-      (subst (λ z. ReplicaR n i.number x (cell_at cells i.number).row z r) (sym (with_part_same s.books cap i.number b within long_b)) here)
+      (over_length s.books (i.number * cap) cap b within long_b) (with_part_other s.books cap i.number b within long_b)
+      (subst (λ z. ReplicaR n i.number x (cell_at cells i.number).row z r) (sym (block_here s.books (i.number * cap) cap b within long_b)) here)
 
   -- other messages in the pools, k of them in use
   pub frame_pool : (k : ℕ) (pool : List (Message E)) (sent_all : List (model.Message E)) → length pool ≡ length s.pool → k ≤ length s.pool

@@ -3,6 +3,7 @@ use Rattle.std.proofs.Common.{◌≡◌, ℕ, ◌<◌, List, [], ◌∷◌, ◌+
 use Rattle.numbers.specs.Views.{view_of}
 use Rattle.entries.specs.declared.kinds.Answer.{Answer as Light}
 use Rattle.entries.specs.declared.kinds.Question.{Question}
+use Rattle.cabinet.proofs.Cuts.{parts_apart}
 use Rattle.site.specs.Making.{make_step}
 use Rattle.site.specs.States.{State}
 use Rattle.protocol.specs.Model as model
@@ -17,7 +18,6 @@ use Rattle.runs.proofs.EveryStep.{sim_all}
 use Rattle.runs.proofs.Items.{item_some}
 use Rattle.runs.proofs.Laws.{laws}
 use Rattle.runs.proofs.Leading.{ran_on}
-use Rattle.runs.proofs.Parts.{part_ends}
 use Rattle.runs.proofs.Simulated.{Simulated}
 use Rattle.runs.proofs.Start.{Sizes, made_bond, made_yes, sizes_of}
 
@@ -27,7 +27,7 @@ module _ {E : Type 0} (says : E → Question → Option Light) (unsettled : Ligh
       let asked = made_yes s n cap x taken in
       let sizes : Sizes n cap (length s.books) (length s.pool) = sizes_of n cap (length s.books) (length s.pool) asked.0 in
       let least : 0 < n = omega (arith, sizes.least) in
-      let some : 0 < length s.books = omega (arith, sizes.cap_least, sizes.books_long, part_ends 0 n cap least) in
+      let some : 0 < length s.books = omega (arith, sizes.cap_least, sizes.books_long, parts_apart 0 n cap least) in
       -- what stands beyond a book means nothing: any entry will do
       let blank : ℕ → model.Entry E = λ _. the_entry (item_some s.books 0 some).0 in
       let bond = made_bond says unsettled s n cap blank cells_long asked.0 asked.1 in

@@ -1,9 +1,11 @@
 -- What `item` reads of a list: after a put, and of a list that is made of others. Assumes nothing.
-use Rattle.std.proofs.Common.{◌≡◌, ℕ, zero, suc, ◌-◌, ◌<◌, ◌≤◌, cond, ◌≢◌, ◌⊎◌, List, [], ◌∷◌, ◌++◌, length, take, set, Some, None, Option, sym, refl, ap, ◌∙◌, inl, inr, suc-le-suc, le_of_suc-le-suc, not-suc-le-zero, zero-lt-suc, arith}
+use Rattle.std.proofs.Common.{◌≡◌, ℕ, zero, suc, ◌-◌, ◌<◌, ◌≤◌, cond, ◌≢◌, ◌⊎◌, List, [], ◌∷◌, ◌++◌, length, take, set, Some, None, Option, sym, refl, ap, ◌∙◌, inl, inr, suc-le-suc, le_of_suc-le-suc, not-suc-le-zero, zero-lt-suc, map, arith}
+use Rattle.std.specs.List.{range_with_len}
+use Rattle.std.proofs.lemmas.List.FromFn.{get_or-map-range_with_len, length-map-range_with_len}
 use Rattle.std.proofs.lemmas.Bool.{cases_lt, ne_eqb}
 use Rattle.std.proofs.lemmas.Option.{none-some}
 use Rattle.controller.specs.Books.{at_place, item}
-use Rattle.controller.proofs.Places.{place_zero}
+use Rattle.controller.proofs.Places.{item_within, place_zero}
 
 module _ {A : Type 0} where
   pub cases_option : (o : Option A) → (o ≡ None) ⊎ ((x : A) × (o ≡ Some x))
@@ -54,6 +56,11 @@ module _ {A : Type 0} where
   item_append_left [] ys j lt = absurd (not-suc-le-zero lt)
   item_append_left (x ∷ xs) ys zero lt = refl
   item_append_left (x ∷ xs) ys (suc j) lt = item_append_left xs ys j (le_of_suc-le-suc lt)
+
+  -- of the first n values of a function
+  pub item_counted : (f : ℕ → A) (n j : ℕ) → j < n → item (map f (range_with_len 0 n)) j ≡ Some (f j)
+  item_counted f n j lt =
+      item_within (map f (range_with_len 0 n)) j (f j) (omega (arith, length-map-range_with_len f 0 n)) (sym (get_or-map-range_with_len f 0 n j j (f j) lt (omega arith)))
 
   -- a list that has the same items is the front
   pub front_same : (xs ys : List A) → length ys ≤ length xs

@@ -1,6 +1,8 @@
 -- From the protocol's theorem to the three laws in the words of the guarantee. Assumes nothing.
-use Rattle.std.proofs.Common.{◌≡◌, ℕ, suc, ◌-◌, ◌<◌, ◌≤◌, cond, ◌&&◌, eqb, List, [], ◌∷◌, ◌++◌, length, take, Some, Option, sym, refl, ap, ◌∙◌, subst, inl, inr, arith}
+use Rattle.std.proofs.Common.{◌≡◌, ℕ, suc, ◌-◌, ◌<◌, ◌≤◌, cond, ◌&&◌, eqb, List, [], ◌∷◌, ◌++◌, map, length, take, Some, Option, sym, refl, ap, ◌∙◌, subst, inl, inr, arith}
 use Rattle.std.proofs.lemmas.Bool.Decides.{nat_tests}
+use Rattle.std.specs.List.{range_with_len}
+use Rattle.std.proofs.lemmas.List.FromFn.{length-map-range_with_len}
 use Rattle.std.proofs.lemmas.Option.{same_Some}
 use Rattle.numbers.specs.declared.views.Stamp.{Stamp}
 use Rattle.numbers.specs.declared.views.View.{View}
@@ -18,8 +20,7 @@ use Rattle.runs.specs.Guarantee.{HandedOnce, Holds, Laws, entry_of}
 use Rattle.runs.specs.History.{Event, confirmed, handed, handed_by, handed_with, looked_up, lost, opened, same_stamp}
 use Rattle.runs.proofs.Bond.{BookR, EventR, HistoryR, Small, code, the_entry}
 use Rattle.runs.proofs.Codes.{code_same, code_of_view, earlier_code, same_view_code, coded_view, view_of_code}
-use Rattle.runs.proofs.Items.{at_item, front_same, item_below, item_some}
-use Rattle.runs.proofs.Listed.{item_listed, length_listed, listed}
+use Rattle.runs.proofs.Items.{at_item, front_same, item_counted, item_below, item_some}
 
 module _ {E : Type 0} where
   -- Entries
@@ -219,7 +220,7 @@ module _ {E : Type 0} where
       -- the one list, entry by entry
 
       the_list : List (Entry E)
-      the_list = listed stands.one_list.length (λ j. decoded (stands.one_list.book j))
+      the_list = map (λ j. decoded (stands.one_list.book j)) (range_with_len 0 stands.one_list.length)
 
       list_has : (t : Stamp) (w : View) (before : List (Entry E)) → Member (confirmed t w before) h
           → (x : E) × (HandedOnce h t x) × (at_place the_list t.place.number ≡ Some (entry_of t x))
@@ -233,7 +234,7 @@ module _ {E : Type 0} where
             (c.f j).what,
             handed_once t w before c,
             ap (at_place the_list) c.is.place ∙ at_item the_list c.k c.is.least
-                ∙ item_listed stands.one_list.length (λ i. decoded (stands.one_list.book i)) j (omega (arith, keeps.0))
+                ∙ item_counted (λ i. decoded (stands.one_list.book i)) stands.one_list.length j (omega (arith, keeps.0))
                 ∙ ap (λ e. Some (decoded e)) (keeps.1 j below)
                 ∙ ap (λ v. Some (record { view = v; change = (c.f j).what })) view,
           )
@@ -246,8 +247,8 @@ module _ {E : Type 0} where
           let k : ℕ = it.k in
           let back : k ≡ suc k - 1 = omega arith in
           let there : item the_list k ≡ Some e = ap (item the_list) back ∙ sym (at_item the_list (suc k) (omega arith)) ∙ sym (ap (at_place the_list) it.place) ∙ read in
-          let below : k < one.length = omega (arith, item_below the_list k e there, length_listed one.length (λ j. decoded (one.book j))) in
-          let is : decoded (one.book k) ≡ e = same_Some (decoded (one.book k)) e (sym (item_listed one.length (λ j. decoded (one.book j)) k below) ∙ there) in
+          let below : k < one.length = omega (arith, item_below the_list k e there, length-map-range_with_len (λ j. decoded (one.book j)) 0 one.length) in
+          let is : decoded (one.book k) ≡ e = same_Some (decoded (one.book k)) e (sym (item_counted (λ j. decoded (one.book j)) one.length k below) ∙ there) in
           one.lacks it.w (code t.view) k it.noted below
           (sym (code_of_view (one.book k).view) ∙ ap (λ x. code x.view) is ∙ ap code view)
 

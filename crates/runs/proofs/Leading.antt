@@ -17,9 +17,6 @@ module _ {E : Type 0} (says : E → Question → Option Answer) (unsettled : Ans
     pub states : ran says unsettled here (steps_of (drop i turns)) ≡ ran says unsettled start (steps_of all)
     pub outcomes : take i turns ++ played says unsettled here (drop i turns) ≡ played says unsettled start all
 
-  pub leads_start : (start : State E) (all : List (Turn E)) → Leads start all start all 0
-  leads_start start all = record { states = refl; outcomes = refl }
-
   -- the turn with what came of it
   abbrev pub turn_with : Turn E → Result (Outcome E) Fault → Turn E
   turn_with t o = record { step = t.step; outcome = Some o }

@@ -19,7 +19,6 @@ pub mod Items
 pub mod Joins
 pub mod Laws
 pub mod Leading
-pub mod Listed
 pub mod Lookups
 pub mod Losses
 pub mod Majorities

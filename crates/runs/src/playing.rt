@@ -37,7 +37,7 @@ fn take_up(stamp: Stamp) -> Result<Slip, Fault>
     let (count, controller) = (stamp.view.count.number, stamp.view.controller.number);
     Slip::take_up(count, controller, stamp.place.number).map_err(|refusal| Fault::at_controller(
         refusal,
-        ControllerNumber { number: 0 },
+        ControllerNumber::ZERO,
     ))
 }
 

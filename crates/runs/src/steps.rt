@@ -1,11 +1,13 @@
 // The twelve steps as values, and what comes of them.
+ghost use Rattle.std.specs.Prelude.{◌≡◌, None};
+
 use controller::Verdict;
 use entries::{Answer, Message, Question};
 use numbers::{ControllerNumber, Place, Stamp};
 use site::Fault;
 
 // An enum, and no list of closures: the guarantee is said over the list of steps, so they are values.
-#[derive(Clone, Copy)]
+#[derive(Clone, Copy, PartialEq, Eq, Debug)]
 pub enum Step<E> {
     Change {
         i: ControllerNumber,
@@ -54,7 +56,7 @@ pub enum Step<E> {
 }
 
 // What came of a step that was taken.
-#[derive(Clone, Copy)]
+#[derive(Clone, Copy, PartialEq, Eq, Debug)]
 pub enum Outcome<E> {
     // the stamp of the slip that was handed out
     Changed { stamp: Stamp },
@@ -69,8 +71,20 @@ pub enum Outcome<E> {
 }
 
 // One step of a list, and what came of it: nothing before it was run.
-#[derive(Clone, Copy)]
+#[derive(Clone, Copy, PartialEq, Eq, Debug)]
 pub struct Turn<E> {
     pub step: Step<E>,
     pub outcome: Option<Result<Outcome<E>, Fault>>,
+}
+
+// A step that was not run yet.
+impl<E> From<Step<E>> for Turn<E> {
+    ghost from_gives = { λ step turn. turn ≡ record { step = step; outcome = None } };
+
+    fn from(step: Step<E>) -> Turn<E> {
+        Turn {
+            step,
+            outcome: None,
+        }
+    }
 }

@@ -4,6 +4,7 @@ ghost use Rattle.cabinet.specs.Cells.{cell_at};
 
 use cabinet::{Cabinet, Strip, Tray};
 
+// The impls only call `left`. It is no part of the trait `Cabinet`: steps may ask only if a cell is worn.
 pub trait Shown: Cabinet {
     // The writes left of a cell; none for a cell of 7 or more.
     fn writes_left(&self, cell: u16) -> u16

@@ -6,19 +6,19 @@ use entries::{CardChange, HoursChange, Kind};
 
 pub trait Written: Kind {
     // A change for memory that holds none yet; no `Default`, since no change is the usual one.
-    fn blank() -> Self;
+    const BLANK: Self;
 
-    // The change that the next words say.
+    // A line with a change.
+    const FORM: &'static str;
+
+    // The change that the next words say; no `FromStr`, since it takes words off a line that goes on.
     fn read(words: &mut Words) -> Option<Self>;
 
     // The three numbers of a change.
     fn numbers(&self) -> [u16; 3];
-
-    // A line with a change.
-    fn form() -> &'static str;
 }
 
-// Whether the next word says that a card is given.
+// Whether the next word says that a card is given. A table of two words would be no shorter.
 fn given(words: &mut Words) -> Option<bool> {
     match words.word()? {
         "given" => Some(true),
@@ -28,13 +28,14 @@ fn given(words: &mut Words) -> Option<bool> {
 }
 
 impl Written for CardChange {
-    fn blank() -> CardChange {
-        CardChange {
-            card: 0,
-            doors: 0,
-            given: false,
-        }
-    }
+    const BLANK: CardChange = CardChange {
+        card: 0,
+        doors: 0,
+        given: false,
+    };
+
+    const FORM: &'static str =
+        "change I CARD DOORS given or change I CARD DOORS withdrawn, with numbers from 0 to 65535";
 
     fn read(words: &mut Words) -> Option<CardChange> {
         let card = words.number()?;
@@ -48,20 +49,16 @@ impl Written for CardChange {
     {
         [self.card, self.doors, u16::from(self.given)]
     }
-
-    fn form() -> &'static str {
-        "change I CARD DOORS given or change I CARD DOORS withdrawn, with numbers from 0 to 65535"
-    }
 }
 
 impl Written for HoursChange {
-    fn blank() -> HoursChange {
-        HoursChange {
-            door: 0,
-            opening: 0,
-            shutting: 0,
-        }
-    }
+    const BLANK: HoursChange = HoursChange {
+        door: 0,
+        opening: 0,
+        shutting: 0,
+    };
+
+    const FORM: &'static str = "change I DOOR OPENING SHUTTING, with numbers from 0 to 65535";
 
     fn read(words: &mut Words) -> Option<HoursChange> {
         let door = words.number()?;
@@ -78,9 +75,5 @@ impl Written for HoursChange {
         ensures { result ≡ self.now.door ∷ self.now.opening ∷ self.now.shutting ∷ [] }
     {
         [self.door, self.opening, self.shutting]
-    }
-
-    fn form() -> &'static str {
-        "change I DOOR OPENING SHUTTING, with numbers from 0 to 65535"
     }
 }

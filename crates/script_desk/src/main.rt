@@ -38,10 +38,7 @@ fn first_line<R: BufRead + Drop>(script: &mut Script<R>) -> Result<Setup, Troubl
             Err(_) => break,
         }
     }
-    Err(Trouble::Line {
-        number: script.number(),
-        expected: orders::SITE,
-    })
+    Err(script.expected(orders::SITE))
 }
 
 // Serves a script of one kind of change, with the cabinet that its first line names.

@@ -5,10 +5,10 @@ use numbers::{ControllerNumber, View};
 
 // An entry and a message for memory that holds nothing of use yet.
 pub fn blanks<E: Written>() -> (Entry<E>, Message<E>) {
-    let nobody = ControllerNumber { number: 0 };
+    let nobody = ControllerNumber::ZERO;
     let entry = Entry {
         view: View::ZERO,
-        change: E::blank(),
+        change: E::BLANK,
     };
     let message = Message {
         sender: nobody,

@@ -42,6 +42,8 @@ pub enum Order<E> {
     Step { step: Step<E> },
 }
 
+// No `FromStr`, since this and `read_store` take words off a line that goes on; and a `match`, where a
+// table of two words would be no shorter.
 fn read_kind(words: &mut Words) -> Option<KindName> {
     match words.word()? {
         "cards" => Some(KindName::Cards),
@@ -129,7 +131,7 @@ impl Said for Setup {
     }
 }
 
-// Any later line.
+// Any later line. A `match`, as in `controller_step`.
 impl<E: Written> Said for Order<E> {
     fn after(word: &str, words: &mut Words) -> Option<Order<E>> {
         let step = match word {
@@ -145,10 +147,10 @@ impl<E: Written> Said for Order<E> {
         Some(Order::Step { step })
     }
 
-    // a `match`, as in `controller_step`
+    // a `match`, since a table of texts would be no shorter
     fn form(word: &str) -> Expected {
         match word {
-            "change" => E::form(),
+            "change" => E::FORM,
             "pass" => "pass I B K, with numbers from 0 to 65535",
             "call" => "call I, with a number from 0 to 65535",
             "invite" => "invite I B, with numbers from 0 to 65535",

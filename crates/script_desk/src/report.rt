@@ -6,6 +6,7 @@ use runs::{Outcome, Turn};
 use site::{Fault, Named};
 use std::fmt;
 
+// A line of the report, whatever it tells of; so `Made` and `Refused` stand among the others.
 #[derive(Clone, Copy)]
 pub enum Line {
     Made,

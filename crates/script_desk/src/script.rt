@@ -2,6 +2,8 @@
 ghost use Rattle.std.specs.Io.Iter.{pieces_left_to_read};
 ghost use Rattle.std.specs.Iterator.{at_most};
 
+use crate::orders::Expected;
+use crate::troubles::Trouble;
 use std::alloc::Global;
 use std::io;
 use std::io::{BufRead, Split};
@@ -9,6 +11,7 @@ use std::io::{BufRead, Split};
 #[derive(Drop)]
 pub struct Script<R> {
     lines: Split<R>,
+    // the number of the last line, from 1; the end of the script counts as a line too
     number: u64,
 }
 
@@ -20,9 +23,12 @@ impl<R: BufRead + Drop> Script<R> {
         }
     }
 
-    // The number of the last line, from 1. The end of the script counts as a line too.
-    pub fn number(&self) -> u64 {
-        self.number
+    // The last line is not what was expected.
+    pub fn expected(&self, expected: Expected) -> Trouble {
+        Trouble::Line {
+            number: self.number,
+            expected,
+        }
     }
 }
 

@@ -21,17 +21,14 @@ const BUFFER: usize = 1_024;
 // A site with its memory and cabinet, the steps that are not run yet, and where reports go.
 #[derive(Drop)]
 pub struct Desk<'a, E, C, O> {
-    setup: Setup,
+    // how to make the site, until that was tried
+    setup: Option<Setup>,
     site: Site,
     cab: &'a mut C,
     out: &'a mut O,
     books: Vec<Entry<E>>,
     pool: Vec<Message<E>>,
     turns: Vec<Turn<E>>,
-    // whether the site was made, or its make refused
-    is_begun: bool,
-    // whether the script has any step
-    is_used: bool,
     statement: Statement,
 }
 
@@ -66,28 +63,26 @@ impl<'a, E: Written, C: Shown, O: Write> Desk<'a, E, C, O> {
         let books = vec![in heap; entry; entries]?;
         let pool = vec![in heap; message; messages]?;
         Ok(Desk {
-            setup,
+            setup: Some(setup),
             site: Site::new(),
             cab,
             out,
             books,
             pool,
             turns: Vec::new(heap),
-            is_begun: false,
-            is_used: false,
             statement: Statement::new(heap),
         })
     }
 
     // Makes the site, and runs the steps gathered so far on it.
-    fn begin(&mut self) -> Result<(), Fault> {
+    fn begin(&mut self, setup: Setup) -> Result<(), Fault> {
         run(
             &mut self.site,
             self.cab,
             self.books.as_mut_slice(),
             self.pool.as_mut_slice(),
-            self.setup.n,
-            self.setup.cap,
+            setup.n,
+            setup.cap,
             self.turns.as_mut_slice(),
         )
     }
@@ -104,12 +99,11 @@ impl<'a, E: Written, C: Shown, O: Write> Desk<'a, E, C, O> {
 
     // Runs the steps gathered so far; before the first ones the site is made. Says how make went.
     fn play(&mut self) -> Option<Line> {
-        if self.is_begun {
+        let Some(setup) = self.setup.take() else {
             self.go_on();
             return None;
-        }
-        self.is_begun = true;
-        match self.begin() {
+        };
+        match self.begin(setup) {
             Ok(()) => Some(Line::Made),
             Err(fault) => {
                 self.go_on();
@@ -132,11 +126,7 @@ impl<'a, E: Written, C: Shown, O: Write> Desk<'a, E, C, O> {
     }
 
     fn add(&mut self, step: Step<E>) -> Result<(), Trouble> {
-        self.is_used = true;
-        self.turns.push(Turn {
-            step,
-            outcome: None,
-        })?;
+        self.turns.push(Turn::from(step))?;
         if self.turns.len() >= BUFFER {
             self.clear()?;
         }
@@ -144,7 +134,6 @@ impl<'a, E: Written, C: Shown, O: Write> Desk<'a, E, C, O> {
     }
 
     fn show(&mut self) -> Result<(), Trouble> {
-        self.is_used = true;
         self.clear()?;
         show(
             self.out,
@@ -154,6 +143,13 @@ impl<'a, E: Written, C: Shown, O: Write> Desk<'a, E, C, O> {
             self.pool.as_slice(),
         )?;
         Ok(())
+    }
+
+    fn follow(&mut self, order: Order<E>) -> Result<(), Trouble> {
+        match order {
+            Order::Show => self.show(),
+            Order::Step { step } => self.add(step),
+        }
     }
 
     // States what happened.
@@ -168,26 +164,23 @@ pub fn serve<E: Written, C: Shown, R: BufRead + Drop, O: Write>(
     mut desk: Desk<E, C, O>,
     script: &mut Script<R>,
 ) -> Result<(), Trouble> {
+    let mut is_used = false;
     for line in script.by_ref() {
         match orders::read::<Order<E>>(text(line?.as_slice())) {
             Ok(None) => {}
-            Ok(Some(Order::Show)) => desk.show()?,
-            Ok(Some(Order::Step { step })) => desk.add(step)?,
+            Ok(Some(order)) => {
+                is_used = true;
+                desk.follow(order)?;
+            }
             Err(expected) => {
                 desk.clear()?;
-                return Err(Trouble::Line {
-                    number: script.number(),
-                    expected,
-                });
+                return Err(script.expected(expected));
             }
         }
     }
     desk.clear()?;
-    if !desk.is_used {
-        return Err(Trouble::Line {
-            number: script.number(),
-            expected: orders::STEP,
-        });
+    if !is_used {
+        return Err(script.expected(orders::STEP));
     }
     desk.tell()
 }

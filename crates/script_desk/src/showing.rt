@@ -1,13 +1,14 @@
 // The whole state of a site, a line for each record, cell, entry and message.
 use crate::cabinets::Shown;
 use crate::kinds::Written;
+use crate::report::Line;
 use crate::spelling::Spelled;
 use crate::views::Dotted;
 use cabinet::Cabinet;
 use controller::{Controller, Status};
 use entries::{Body, Entry, Message, Reply};
-use numbers::ControllerNumber;
-use site::Site;
+use numbers::{ControllerNumber, Refusal};
+use site::{Fault, Site};
 use std::io::Write;
 use std::{fmt, io};
 
@@ -27,6 +28,13 @@ struct OrDash<T>(Option<T>);
 #[derive(Clone, Copy)]
 struct Answered(Reply);
 
+// What an answer says, a mark before each part.
+#[derive(Clone, Copy)]
+struct Marked {
+    mark: char,
+    reply: Reply,
+}
+
 impl<T: fmt::Display> fmt::Display for OrDash<T> {
     fn fmt<W: fmt::Write>(&self, f: &mut fmt::Formatter<W>) -> fmt::Result {
         match &self.0 {
@@ -39,7 +47,18 @@ impl<T: fmt::Display> fmt::Display for OrDash<T> {
 impl fmt::Display for Answered {
     fn fmt<W: fmt::Write>(&self, f: &mut fmt::Formatter<W>) -> fmt::Result {
         let word = self.0.word();
-        match self.0 {
+        let parts = Marked {
+            mark: ':',
+            reply: self.0,
+        };
+        write!(f, "{word}{parts}")
+    }
+}
+
+impl fmt::Display for Marked {
+    fn fmt<W: fmt::Write>(&self, f: &mut fmt::Formatter<W>) -> fmt::Result {
+        let mark = self.mark;
+        match self.reply {
             Reply::Normal {
                 current,
                 length,
@@ -47,11 +66,11 @@ impl fmt::Display for Answered {
             } => {
                 let view = Dotted(current);
                 let leads = u8::from(primary);
-                write!(f, "{word}:{view}:{length}:{leads}")
+                write!(f, "{mark}{view}{mark}{length}{mark}{leads}")
             }
             Reply::Crash { current } => {
                 let view = Dotted(current);
-                write!(f, "{word}:{view}")
+                write!(f, "{mark}{view}")
             }
         }
     }
@@ -127,9 +146,14 @@ fn show_cells<O: Write, C: Shown>(out: &mut O, cab: &C) -> io::Result<()> {
     Ok(())
 }
 
-// The entries of controller c that are in use.
-fn show_book<O: Write, E: Written>(out: &mut O, c: u16, entries: &[Entry<E>]) -> io::Result<()> {
-    for (k, entry) in entries.iter().enumerate() {
+// The entries of controller c that are in use, the first of its part of the books.
+fn show_book<O: Write, E: Written>(
+    out: &mut O,
+    c: u16,
+    length: u16,
+    part: &[Entry<E>],
+) -> io::Result<()> {
+    for (k, entry) in part.iter().take(length as usize).enumerate() {
         let place = k + 1;
         let view = Dotted(entry.view);
         let [a, b, x] = entry.change.numbers();
@@ -143,12 +167,9 @@ fn show_books<O: Write, E: Written>(
     site: &Site,
     books: &[Entry<E>],
 ) -> io::Result<()> {
-    for c in 0..site.n() {
-        let start = c as usize * site.cap() as usize;
-        let end = start + site.controller(c).length as usize;
-        if let Some(entries) = books.get(start..end) {
-            show_book(out, c, entries)?;
-        }
+    let parts = books.chunks(site.cap().max(1) as usize);
+    for (c, part) in (0..site.n()).zip(parts) {
+        show_book(out, c, site.controller(c).length, part)?;
     }
     Ok(())
 }
@@ -157,22 +178,9 @@ fn show_books<O: Write, E: Written>(
 fn show_body<O: Write, E: Written>(out: &mut O, body: Body<E>) -> io::Result<()> {
     match body {
         Body::Invitation | Body::Form => Ok(()),
-        Body::Answer {
-            reply: Reply::Normal {
-                current,
-                length,
-                primary,
-            },
-        } => {
-            let view = Dotted(current);
-            let leads = u8::from(primary);
-            write!(out, " {view} {length} {leads}")
-        }
-        Body::Answer {
-            reply: Reply::Crash { current },
-        } => {
-            let view = Dotted(current);
-            write!(out, " {view}")
+        Body::Answer { reply } => {
+            let parts = Marked { mark: ' ', reply };
+            write!(out, "{parts}")
         }
         Body::Entry { place, entry } => {
             let place = place.number;
@@ -210,7 +218,10 @@ pub fn show<O: Write, E: Written, C: Shown>(
     pool: &[Message<E>],
 ) -> io::Result<()> {
     if !site.is_ready() {
-        return writeln!(out, "show: refused 1 controller 0");
+        let fault = Fault::at_controller(Refusal::NotMade, ControllerNumber::ZERO);
+        let word = "show";
+        let line = Line::Refused { word, fault };
+        return writeln!(out, "{line}");
     }
     let n = site.n();
     let cap = site.cap();

@@ -3,6 +3,7 @@ use numbers::View;
 use std::fmt;
 
 // COUNT.CONTROLLER
+// A type of its own: a `Display` of another crate's `View` can't stand here, and `desk` writes (1, 2).
 #[derive(Clone, Copy)]
 pub struct Dotted(pub View);
 

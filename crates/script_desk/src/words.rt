@@ -2,7 +2,7 @@
 ghost use Rattle.script_desk.specs.Digits.{Reads};
 
 use entries::Question;
-use numbers::{ControllerNumber, Place, Stamp, View, ViewCount};
+use numbers::{ControllerNumber, Place, Stamp, View};
 use std::str::Split;
 
 // The words of a line that are not read yet. Spaces and tabs part them.
@@ -38,6 +38,7 @@ impl<'a> Words<'a> {
     }
 
     // Any number, as at a place: `try_from` would refuse those out of range, which is for the step to do.
+    // Two functions, since a number is of one type or the other.
     pub fn controller(&mut self) -> Option<ControllerNumber> {
         let number = self.number()?;
         Some(ControllerNumber { number })
@@ -50,15 +51,9 @@ impl<'a> Words<'a> {
 
     // A view count, a controller and a place, whether in range or not.
     pub fn stamp(&mut self) -> Option<Stamp> {
-        let count = ViewCount {
-            number: self.number()?,
-        };
-        let controller = self.controller()?;
+        let view = View::of(self.number()?, self.number()?);
         let place = self.place()?;
-        Some(Stamp {
-            view: View { count, controller },
-            place,
-        })
+        Some(Stamp { view, place })
     }
 
     pub fn question(&mut self) -> Option<Question> {

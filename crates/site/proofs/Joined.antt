@@ -1,5 +1,6 @@
 -- A join that is refused leaves all as it was; one that is taken copies the book, and had room. Assumes nothing.
-use Rattle.std.proofs.Common.{◌≡◌, ℕ, ◌-◌, Bool, true, false, cond, leb, List, [], ◌∷◌, length, get_or, take, drop, Ok, Err, Result, sym, refl, ap, ◌∙◌, rules}
+use Rattle.std.proofs.Common.{◌≡◌, ℕ, ◌+◌, ◌-◌, ◌*◌, ◌<◌, ◌≤◌, Bool, true, false, cond, leb, List, [], ◌∷◌, length, get_or, take, drop, set, min, Ok, Err, Result, sym, refl, ap, ◌∙◌, arith, rules, ltb-true}
+use lib.Seq.{paste}
 use Rattle.numbers.specs.declared.rows.Row.{Row}
 use Rattle.numbers.specs.declared.views.ControllerNumber.{ControllerNumber}
 use Rattle.numbers.specs.declared.views.View.{View}
@@ -21,9 +22,10 @@ use Rattle.site.specs.Faults.{site_fault}
 use Rattle.site.specs.declared.faults.Fault.{Fault}
 use Rattle.site.specs.States.{IsPair, State, book, done, has_room, put_all, row, sent, state, with_part, with_row}
 use Rattle.site.specs.Steps.{after_join, join_step, sending}
+use Rattle.site.proofs.Copied.{part_copied}
 use Rattle.site.proofs.Kept.{asks_all, put_kept}
-use Rattle.site.proofs.Lent.{LentTo, lent}
-use Rattle.site.proofs.Stepping.{pair_go, rows_back}
+use Rattle.site.proofs.Lent.{LentTo, lent, row_back}
+use Rattle.site.proofs.Stepping.{pair_go, rows_back, with_rows}
 
 module _ {A B : Type 0} (cs : List Cell) (i : ControllerNumber) (w : Row) (x y : A) (z : B) where
   -- what a put that is refused leaves, and one that is taken
@@ -90,42 +92,74 @@ module _ {E : Type 0} (i : ControllerNumber) (r : Controller) (book : List (Entr
         by_room true m e = (if_put_taken cs i led_row.views book (copied log book) said m e, refl)
         by_room false m e = ((cc), (cc))
 
-module _ {E : Type 0} (x : Site) (cs : List Cell) (books : List (Entry E)) (pool : List (Message E)) (i p : ControllerNumber) where
-  abbrev before : State E
-  before = state x cs books pool
-
+module _ {E : Type 0} (s : State E) (i p : ControllerNumber) where
   abbrev pub join_of : Joined E
-  join_of = joined i (row before i) (book before i) cs p (row before p) (book before p) (has_room before)
+  join_of = joined i (row s i) (book s i) s.cells p (row s p) (book s p) (has_room s)
 
   abbrev after : State E
-  after = put_all before i join_of.row join_of.book join_of.cells
+  after = put_all s i join_of.row join_of.book join_of.cells
 
-  -- what the rows and the parts as they are lent give
-  pub joined_lent : (k l : ControllerNumber) (j a b j' a' b' : ℕ) (room : Bool) → LentTo x k i j a b → LentTo x l p j' a' b' → room ≡ has_room before
-      → joined k (get_or x.rows j down_record) (take (b - a) (drop a books)) cs l (get_or x.rows j' down_record) (take (b' - a') (drop a' books)) room ≡ join_of
-  joined_lent k l j a b j' a' b' room given other fits =
+  -- the site's questions are answered yes, the controller's step gives `r`, and what it left is put back
+  pub record Joins (r : Result (Message E) Stopped) (x' : Site) (cs' : List Cell) : Type 0 where
+    pub goes : join_step s i p ≡ after_join s i join_of
+    pub result_is : join_of.result ≡ r
+    pub site_is : x' ≡ with_row s.site i join_of.row
+    pub cells_is : cs' ≡ join_of.cells
+
+-- so it is with what the rows and the parts as they are lent give
+module _ {E : Type 0} {x : Site} {cs : List Cell} {books : List (Entry E)} {pool : List (Message E)} {i p k l : ControllerNumber} {j a b j' a' b' : ℕ} {room : Bool} where
+  pub joins : {m : Member × Member} {r : Result (Message E) Stopped} {row' : Controller} {cs' : List Cell} → IsPair x (length books) (length pool) i p m → LentTo x k i j a b → LentTo x l p j' a' b' → room ≡ has_room (state x cs books pool)
+      → let o = joined k (get_or x.rows j down_record) (take (b - a) (drop a books)) cs l (get_or x.rows j' down_record) (take (b' - a') (drop a' books)) room in r ≡ o.result → row' ≡ o.row → cs' ≡ o.cells
+      → Joins (state x cs books pool) i p r (with_rows x (set x.rows j row')) cs'
+  joins {row' = row'} pair given other fits result_was row_was cells_was =
+      let s = state x cs books pool in
+      let same : joined k (get_or x.rows j down_record) (take (b - a) (drop a books)) cs l (get_or x.rows j' down_record) (take (b' - a') (drop a' books)) room ≡ join_of s i p =
       lent x books k i j a b given (λ z r q. joined z r q cs l (get_or x.rows j' down_record) (take (b' - a') (drop a' books)) room)
-      ∙ lent x books l p j' a' b' other (λ z r q. joined i (row before i) (book before i) cs z r q room)
-      ∙ ap (joined i (row before i) (book before i) cs p (row before p) (book before p)) fits
+      ∙ lent x books l p j' a' b' other (λ z r q. joined i (row s i) (book s i) cs z r q room)
+      ∙ ap (joined i (row s i) (book s i) cs p (row s p) (book s p)) fits in
+      record {
+        goes = pair_go s i p (after_join s i (join_of s i p)) pair.first.made pair.first.below pair.second.below pair.two;
+        result_is = ap (λ o. o.result) (sym same) ∙ sym result_was;
+        site_is = row_back x books k i j a b given row' (join_of s i p).row (row_was ∙ ap (λ o. o.row) same);
+        cells_is = cells_was ∙ ap (λ o. o.cells) same;
+      }
 
-  -- where the site's questions are answered yes
-  module _ (m : Member × Member) (pair : IsPair x (length books) (length pool) i p m) where
-    goes : join_step before i p ≡ after_join before i join_of
-    goes = pair_go before i p (after_join before i join_of) pair.first.made pair.first.below pair.second.below pair.two
+module _ {E : Type 0} {s : State E} {i p : ControllerNumber} {x' : Site} {cs' : List Cell} where
+  pub join_refused : {f : Stopped} {r : Result (Unit {0}) Fault} → Joins s i p (Err f) x' cs' → r ≡ Err (site_fault f) → join_step s i p ≡ done r (state x' cs' s.books s.pool)
+  join_refused {f = f} {r = r} d named =
+      let kept = joined_kept i (row s i) (book s i) s.cells p (row s p) (book s p) (has_room s) f d.result_is in
+      d.goes ∙ ap (λ z. sending s (λ y. tt) z (after s i p)) d.result_is
+      ∙ ap (λ z. done (Err (site_fault f)) (state z s.cells s.books s.pool)) (sym (d.site_is ∙ ap (with_row s.site i) kept.0 ∙ rows_back s.site i.number (row s i) refl))
+      ∙ ap (λ z. done (Err (site_fault f)) (state x' z s.books s.pool)) (sym (d.cells_is ∙ kept.1.1))
+      ∙ ap (λ z. done z (state x' cs' s.books s.pool)) (sym named)
 
-    pub join_refused : (x' : Site) (cs' : List Cell) (f : Stopped) (r : Result (Unit {0}) Fault) → x' ≡ with_row x i join_of.row → cs' ≡ join_of.cells → join_of.result ≡ Err f → r ≡ Err (site_fault f)
-        → join_step before i p ≡ done r (state x' cs' books pool)
-    join_refused x' cs' f r site_is cells_is e named =
-        let kept = joined_kept i (row before i) (book before i) cs p (row before p) (book before p) (has_room before) f e in
-        goes ∙ ap (λ z. sending before (λ y. tt) z after) e
-        ∙ ap (λ z. done (Err (site_fault f)) (state z cs books pool)) (sym (site_is ∙ ap (with_row x i) kept.0 ∙ rows_back x i.number (row before i) refl))
-        ∙ ap (λ z. done (Err (site_fault f)) (state x' z books pool)) (sym (cells_is ∙ kept.1.1))
-        ∙ ap (λ z. done z (state x' cs' books pool)) (sym named)
+  module _ {y : Message E} (d : Joins s i p (Ok y) x' cs') where
+    taken : ((join_of s i p).book ≡ copied (in_use (row s p) (book s p)) (book s i)) × (has_room s ≡ true)
+    taken = joined_taken i (row s i) (book s i) s.cells p (row s p) (book s p) (has_room s) y d.result_is
 
-    pub join_sent : (x' : Site) (cs' : List Cell) (books' : List (Entry E)) (y : Message E) → x' ≡ with_row x i join_of.row → cs' ≡ join_of.cells → books' ≡ with_part books x.cap i.number join_of.book → join_of.result ≡ Ok y
-        → join_step before i p ≡ done (Ok tt) (sent (state x' cs' books' pool) y)
-    join_sent x' cs' books' y site_is cells_is books_is e =
-        goes ∙ ap (λ z. sending before (λ y. tt) z after) e
-        ∙ ap (λ z. done (Ok tt) (sent (state z after.cells after.books pool) y)) (sym site_is)
-        ∙ ap (λ z. done (Ok tt) (sent (state x' z after.books pool) y)) (sym cells_is)
-        ∙ ap (λ z. done (Ok tt) (sent (state x' cs' z pool) y)) (sym books_is)
+    -- what is sent has room
+    pub join_room : s.site.count < length s.pool
+    join_room = ltb-true s.site.count (length s.pool) taken.1
+
+    -- the entries in use of the other's part, which begins at b, are copied to where the part of i begins
+    pub join_sent : {m : Member × Member} {a b n : ℕ} {books' : List (Entry E)} → IsPair s.site (length s.books) (length s.pool) i p m
+        → a ≡ m.0.number.number * s.site.cap → b ≡ m.1.number.number * s.site.cap → b + s.site.cap ≤ m.1.n * s.site.cap
+        → n ≡ min (row s p).length s.site.cap → books' ≡ paste s.books a (drop b s.books) (b + n - b)
+        → join_step s i p ≡ done (Ok tt) (sent (state x' cs' books' s.pool) y)
+    join_sent {a = a} {b = b} {n = n} pair to from within count copy =
+        let cap = s.site.cap in
+        let long : b + n - b ≡ n = omega arith in
+        let to_i : a ≡ i.number * cap = to ∙ ap (λ z. z.number * cap) pair.first.number in
+        let from_p : b ≡ p.number * cap = from ∙ ap (λ z. z.number * cap) pair.second.number in
+        let size = ap (λ z. z * cap) pair.second.size in
+        let fits : p.number * cap + cap ≤ length s.books = omega (arith, size, from_p, within, pair.first.books_long) in
+        let books_is = copy
+        ∙ ap (λ z. paste s.books z (drop b s.books) (b + n - b)) to_i
+        ∙ ap (λ z. paste s.books (i.number * cap) (drop z s.books) (b + n - b)) from_p
+        ∙ ap (paste s.books (i.number * cap) (drop (p.number * cap) s.books)) (long ∙ count)
+        ∙ part_copied s.books cap i.number p.number (row s p).length fits
+        ∙ ap (λ z. with_part s.books cap i.number z) (sym taken.0) in
+        d.goes ∙ ap (λ z. sending s (λ y. tt) z (after s i p)) d.result_is
+        ∙ ap (λ z. done (Ok tt) (sent (state z (join_of s i p).cells (after s i p).books s.pool) y)) (sym d.site_is)
+        ∙ ap (λ z. done (Ok tt) (sent (state x' z (after s i p).books s.pool) y)) (sym d.cells_is)
+        ∙ ap (λ z. done (Ok tt) (sent (state x' cs' z s.pool) y)) (sym books_is)

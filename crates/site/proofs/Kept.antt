@@ -1,5 +1,5 @@
 -- A controller's step that is refused leaves its record, book and cells as they were. Assumes nothing.
-use Rattle.std.proofs.Common.{◌≡◌, ℕ, Bool, true, false, cond, ltb, List, [], ◌∷◌, Some, None, Ok, Err, Option, Result, refl, arith, rules}
+use Rattle.std.proofs.Common.{◌≡◌, ℕ, Bool, true, false, cond, ltb, List, [], ◌∷◌, Some, None, Ok, Err, Option, Result, refl, rules}
 use Rattle.numbers.specs.declared.views.ControllerNumber.{ControllerNumber}
 use Rattle.numbers.specs.declared.views.Place.{Place}
 use Rattle.numbers.specs.Views.{earlier, same_view}
@@ -32,12 +32,6 @@ asks_all P (x ∷ xs) refused done no_one go = by x.yes_to_it (asks_all P xs ref
     by false rest = no_one x.number
 
 module _ {A : Type 0} where
-  ok_err : (x : A) (f : Stopped) → Ok x ≡ Err f → ⊥
-  ok_err x f e = let z : ◌≡◌ {A = ℕ} 0 1 = cc in omega_false z
-    where
-      omega_false : ◌≡◌ {A = ℕ} 0 1 → ⊥
-      omega_false z = omega arith
-
   abbrev pub KeepsRow : Controller → Kept A → Type 0
   KeepsRow r o = (f : Stopped) → o.result ≡ Err f → o.row ≡ r
 

@@ -1,5 +1,5 @@
 -- What a lent row or part leaves of the table and the memory that it was lent from. Assumes nothing.
-use Rattle.std.proofs.Common.{◌≡◌, ℕ, zero, suc, ◌+◌, ◌-◌, ◌*◌, List, [], ◌∷◌, ◌++◌, get_or, take, drop, set, sym, refl, ap, ◌∙◌, arith}
+use Rattle.std.proofs.Common.{◌≡◌, ℕ, ◌+◌, ◌-◌, ◌*◌, List, [], ◌++◌, get_or, take, drop, set, sym, ap, ◌∙◌, arith}
 use borrow.Rule.Slice.PartMut.{Post-is, put_mid}
 use Rattle.std.proofs.lemmas.List.{drop-drop, take-append-drop}
 use Rattle.numbers.specs.declared.views.ControllerNumber.{ControllerNumber}
@@ -9,12 +9,6 @@ use Rattle.site.specs.declared.records.Site.{Site}
 use Rattle.site.specs.States.{part, with_part, with_row}
 
 module _ {A : Type 0} where
-  -- a row written back as it was
-  pub set_back : (xs : List A) (i : ℕ) (d : A) → set xs i (get_or xs i d) ≡ xs
-  set_back [] i d = refl
-  set_back (x ∷ xs) zero d = refl
-  set_back (x ∷ xs) (suc i) d = ap (λ ys. x ∷ ys) (set_back xs i d)
-
   -- the part that is lent from a to b is controller i's, and the books with p back at its place have p as that part
   pub part_lent : (books : List A) (cap i a b : ℕ) (p : List A) → a ≡ i * cap → b ≡ i * cap + cap
       → (take (b - a) (drop a books) ≡ part books cap i) × (put_mid a (b - a) books p ≡ with_part books cap i p)

@@ -10,7 +10,8 @@ use numbers::{ControllerNumber, Refusal};
 use std::ops::Range;
 
 impl Site {
-    // Whether the site is made, with memory of these lengths.
+    // Whether the site is made, with memory of these lengths. The count is asked too: the definitions
+    // speak of any record, and so of one that no make left.
     pub fn is_made<E>(&self, books: &[Entry<E>], pool: &[Message<E>]) -> bool
         ensures value { result ≡ made_with self.now (length books.now) (length pool.now) }
         ensures few { result ≡ true → length pool.now ≤ 65535 }

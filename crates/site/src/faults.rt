@@ -39,7 +39,7 @@ impl Fault {
         }
     }
 
-    // A refusal that names the message.
+    // A refusal that names the message, whose number is no controller's.
     pub(crate) fn at_message(refusal: Refusal, number: u16) -> Fault
         ensures { result ≡ record { refusal = refusal; named = Named.Message number } }
     {

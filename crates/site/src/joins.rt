@@ -10,7 +10,7 @@ use controller::Controller;
 use entries::{Entry, Message};
 use numbers::ControllerNumber;
 
-// How many entries of a book of cap entries are in use.
+// How many entries of a book of cap entries are in use: a number, since the copy wants one.
 fn used(row: &Controller, cap: u16) -> usize
     ensures { result ≡ min row.now.length cap }
 {

@@ -74,7 +74,7 @@ impl Site {
     ) -> Result<(), Fault>
         ensures { make_step (state self.old (C.cells cab.now).list books.now pool.now) n cap ≡ done result (state self.new (C.cells cab.now).list books.now pool.now) }
     {
-        let first = ControllerNumber { number: 0 };
+        let first = ControllerNumber::ZERO;
         if !sizes_are_ok(n, cap, books.len(), pool.len()) {
             return Err(Fault::at_controller(Refusal::NotMade, first));
         }

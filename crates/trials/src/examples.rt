@@ -7,7 +7,8 @@ ghost use Rattle.entries.specs.declared.book.Reply.TheVariants.{Normal, Crash};
 ghost use Rattle.cabinet.specs.Slots.{slot_bytes};
 ghost use Rattle.forming.specs.Rules.{choice as choice_of};
 
-use crate::values::{row, view};
+use crate::values;
+use crate::values::row;
 use cabinet::*;
 use controller::choice;
 use entries::Reply;
@@ -27,17 +28,13 @@ fn stated()
 {}
 
 fn normal(current: (u16, u16), length: u16, primary: bool) -> Option<Reply> {
-    Some(Reply::Normal {
-        current: view(current.0, current.1),
-        length,
-        primary,
-    })
+    let (count, controller) = current;
+    Some(values::normal(View::of(count, controller), length, primary))
 }
 
 fn crash(current: (u16, u16)) -> Option<Reply> {
-    Some(Reply::Crash {
-        current: view(current.0, current.1),
-    })
+    let (count, controller) = current;
+    Some(values::crash(View::of(count, controller)))
 }
 
 #[test]
@@ -46,7 +43,7 @@ fn worked_examples(rt: HostRuntime) -> Result<(), Fail> {
     for (n, expected) in [(3, 2), (4, 3), (5, 3), (6, 4), (7, 4)] {
         assert_eq!(rt; majority(n), expected);
     }
-    assert!(rt; view(1, 2).is_earlier(view(2, 0)));
+    assert!(rt; View::of(1, 2).is_earlier(View::of(2, 0)));
     let held = CellRecord::try_from(row((5, 1), (128, 0)))?;
     assert_eq!(rt; slot_of(held), [1, 0, 5, 1, 0, 128, 0, 0]);
     Ok(())

@@ -1,6 +1,6 @@
 // What card and hours changes say, and what a book answers.
-use crate::values::view;
 use entries::*;
+use numbers::View;
 
 fn card(card: u16, doors: u16, given: bool) -> CardChange {
     CardChange { card, doors, given }
@@ -61,7 +61,7 @@ fn an_hours_change_says(rt: HostRuntime) {
 
 fn entry<E>(count: u16, change: E) -> Entry<E> {
     Entry {
-        view: view(count, 0),
+        view: View::of(count, 0),
         change,
     }
 }

@@ -1,5 +1,5 @@
 // The bounds of every range, the order of views, and the number of every refusal.
-use crate::values::{row, view};
+use crate::values::row;
 use numbers::*;
 
 // The value, or the refusal of what does not keep its form.
@@ -40,7 +40,7 @@ fn views_and_stamps(rt: HostRuntime) {
         (16_384, 6, 1, false, false),
         (16_383, 7, 1, false, false),
     ] {
-        let made_view = view(count, controller);
+        let made_view = View::of(count, controller);
         let stamp = Stamp {
             view: made_view,
             place: Place { number: place },
@@ -61,8 +61,8 @@ fn order(rt: HostRuntime) {
         ((1, 3), (1, 3), false, true),
         ((0, 6), (16_383, 0), true, false),
     ] {
-        let v = view(v.0, v.1);
-        let w = view(w.0, w.1);
+        let v = View::of(v.0, v.1);
+        let w = View::of(w.0, w.1);
         assert_eq!(rt; v.is_earlier(w), earlier);
         assert_eq!(rt; v.is_same(w), same);
     }

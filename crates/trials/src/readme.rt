@@ -7,19 +7,9 @@ use runs::{Outcome, Step, Turn, run};
 use site::{Fault, Site};
 use std::test::Fail;
 
-fn turn(step: Step<CardChange>) -> Turn<CardChange> {
-    Turn {
-        step,
-        outcome: None,
-    }
-}
-
 // Card 7 is withdrawn at doors 0 and 3, passed on to controller 1, and confirmed.
 fn evening(turns: &mut [Turn<CardChange>]) -> Result<(), Fault> {
-    let (zero, one) = (
-        ControllerNumber { number: 0 },
-        ControllerNumber { number: 1 },
-    );
+    let (zero, one) = (ControllerNumber::ZERO, ControllerNumber { number: 1 });
     let withdrawn = CardChange {
         card: 7,
         doors: 9,
@@ -45,14 +35,11 @@ fn evening(turns: &mut [Turn<CardChange>]) -> Result<(), Fault> {
 }
 
 fn steps() -> [Turn<CardChange>; 6] {
-    let (zero, one) = (
-        ControllerNumber { number: 0 },
-        ControllerNumber { number: 1 },
-    );
+    let (zero, one) = (ControllerNumber::ZERO, ControllerNumber { number: 1 });
     let place = Place { number: 1 };
     let view = View::ZERO;
     [
-        turn(Step::Change {
+        Turn::from(Step::Change {
             i: zero,
             x: CardChange {
                 card: 7,
@@ -60,18 +47,18 @@ fn steps() -> [Turn<CardChange>; 6] {
                 given: false,
             },
         }),
-        turn(Step::Pass {
+        Turn::from(Step::Pass {
             i: zero,
             to: one,
             place,
         }),
-        turn(Step::Deliver { message: 0 }),
-        turn(Step::Deliver { message: 1 }),
-        turn(Step::Settle {
+        Turn::from(Step::Deliver { message: 0 }),
+        Turn::from(Step::Deliver { message: 1 }),
+        Turn::from(Step::Settle {
             i: zero,
             stamp: Stamp { view, place },
         }),
-        turn(Step::Lookup {
+        Turn::from(Step::Lookup {
             i: one,
             question: Question {
                 first: 7,

@@ -1,5 +1,6 @@
 // Calls of a site on memory made for them: what no script can reach.
-use crate::values::{row, view};
+use crate::values;
+use crate::values::row;
 use cabinet::{Cabinet, Tray};
 use entries::{Body, Entry, Message, Reply};
 use numbers::*;
@@ -17,7 +18,7 @@ struct Bench {
 
 fn entry(count: u16, controller: u16) -> Entry<u16> {
     Entry {
-        view: view(count, controller),
+        view: View::of(count, controller),
         change: 7,
     }
 }
@@ -26,28 +27,20 @@ fn entry(count: u16, controller: u16) -> Entry<u16> {
 fn message(body: Body<u16>) -> Message<u16> {
     Message {
         sender: ControllerNumber { number: 1 },
-        addressee: ControllerNumber { number: 0 },
-        view: view(0, 0),
+        addressee: ControllerNumber::ZERO,
+        view: View::of(0, 0),
         body,
     }
 }
 
 fn normal(count: u16, controller: u16, length: u16) -> Body<u16> {
-    Body::Answer {
-        reply: Reply::Normal {
-            current: view(count, controller),
-            length,
-            primary: false,
-        },
-    }
+    let reply = values::normal(View::of(count, controller), length, false);
+    Body::Answer { reply }
 }
 
 fn crash(count: u16, controller: u16) -> Body<u16> {
-    Body::Answer {
-        reply: Reply::Crash {
-            current: view(count, controller),
-        },
-    }
+    let reply = values::crash(View::of(count, controller));
+    Body::Answer { reply }
 }
 
 fn carries(place: u16, count: u16, controller: u16) -> Body<u16> {
@@ -72,7 +65,7 @@ fn unmade(tray: Tray) -> Bench {
 }
 
 fn change(b: &mut Bench) -> Option<u8> {
-    let me = ControllerNumber { number: 0 };
+    let me = ControllerNumber::ZERO;
     let res = b.site.change(&mut b.books, &b.pool, me, 7);
     refused(res.map(|slip| slip.set_aside()))
 }
@@ -85,7 +78,7 @@ fn started() -> Bench {
     let _ = b.site.pass(
         &b.books,
         &mut b.pool,
-        ControllerNumber { number: 0 },
+        ControllerNumber::ZERO,
         ControllerNumber { number: 1 },
         Place { number: 1 },
     );
@@ -166,7 +159,7 @@ fn counts_are_spent(rt: HostRuntime) {
         last = refused(b.site.call(&mut b.tray, &b.books, &b.pool, me));
     }
     assert_eq!(rt; last, None);
-    assert_eq!(rt; b.site.controller(2).views.promised, view(16_383, 2));
+    assert_eq!(rt; b.site.controller(2).views.promised, View::of(16_383, 2));
     assert_eq!(rt;
         refused(b.site.call(&mut b.tray, &b.books, &b.pool, me)),
         Some(13)
@@ -200,7 +193,7 @@ fn used_cells(rt: HostRuntime) -> Result<(), Fail> {
 #[test]
 fn other_memory(rt: HostRuntime) {
     assert_eq!(rt; change(&mut unmade(Tray::new([9; 7]))), Some(1));
-    let me = ControllerNumber { number: 0 };
+    let me = ControllerNumber::ZERO;
     let mut b = started();
     let fewer = [entry(0, 0); 8];
     let mut short = [message(Body::Invitation); 7];
@@ -233,38 +226,28 @@ fn sizes(rt: HostRuntime) {
 
 // A fault at deliver names the message; with 15 the cell and its controller.
 #[test]
-fn faults_name_what_was_given(rt: HostRuntime) -> Result<(), Fail> {
+fn faults_name_what_was_given(rt: HostRuntime) {
     let mut b = started();
-    let Err(
-        Fault {
-            named: Named::Message { number },
-            ..
-        },
-    ) = b.site.deliver(&mut b.tray, &mut b.books, &mut b.pool, 900)
-    else {
-        return Err(Fail::new("no fault that names a message"));
-    };
-    assert_eq!(rt; number, 900);
+    let res = b.site.deliver(&mut b.tray, &mut b.books, &mut b.pool, 900);
+    let named = res.err().map(|fault| fault.named);
+    assert_eq!(rt; named, Some(Named::Message { number: 900 }));
     let me = ControllerNumber { number: 2 };
-    let Err(
-        Fault {
-            named: Named::Cell { cell, controller },
-            ..
-        },
-    ) = b.site.call(&mut Tray::new([0; 7]), &b.books, &b.pool, me)
-    else {
-        return Err(Fail::new("no fault that names a cell"));
-    };
-    assert_eq!(rt; cell, 2);
-    assert_eq!(rt; controller, me);
-    Ok(())
+    let res = b.site.call(&mut Tray::new([0; 7]), &b.books, &b.pool, me);
+    let named = res.err().map(|fault| fault.named);
+    assert_eq!(rt;
+        named,
+        Some(Named::Cell {
+            cell: 2,
+            controller: me
+        })
+    );
 }
 
 // A cabinet that somebody else wrote to: a recovered controller has the views of its cell.
 #[test]
 fn other_hands(rt: HostRuntime) -> Result<(), Fail> {
     let mut b = started();
-    let me = ControllerNumber { number: 0 };
+    let me = ControllerNumber::ZERO;
     assert_eq!(rt; refused(b.site.crash(&b.books, &b.pool, me)), None);
     assert!(rt;
         b.tray

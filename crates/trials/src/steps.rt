@@ -1,5 +1,5 @@
 // One controller's steps, on records that were made for them.
-use crate::values::{row, view};
+use crate::values::row;
 use cabinet::*;
 use controller::{
     Controller, Fault, Member, Settled, Slip, Status, Verdict, change, crash, deliver, recover,
@@ -29,14 +29,14 @@ fn primary(length: u16, other: Option<u16>) -> Controller {
         views: row((1, 0), (1, 0)),
         complete: true,
         length,
-        primary: ControllerNumber { number: 0 },
+        primary: ControllerNumber::ZERO,
     }
 }
 
 // A book of three places, whose entries are of view (0, 0).
 fn book() -> [Entry<u16>; 3] {
     [Entry {
-        view: view(0, 0),
+        view: View::of(0, 0),
         change: 7,
     }; 3]
 }
@@ -99,7 +99,7 @@ fn invited(me: Member, cab: &mut Tray, cut: bool) -> Result<Option<Message<u16>>
     let invitation = Message {
         sender: ControllerNumber { number: 2 },
         addressee: me.number(),
-        view: view(3, 2),
+        view: View::of(3, 2),
         body: Body::Invitation,
     };
     deliver(me, &mut row, cab, &mut book(), invitation, true)
@@ -126,11 +126,12 @@ fn a_recovered_controller_answers_crash(rt: HostRuntime) -> Result<(), Fail> {
     let mut cab = Tray::new([9; 7]);
     let held = CellRecord::try_from(row((1, 0), (2, 1)))?;
     assert!(rt; cab.put(1, held).is_ok());
+    // `matches!`, since only kind and view are compared
     let after_a_cut = answer(me, &mut cab, true);
-    assert!(rt; matches!(after_a_cut, Some(Reply::Crash { current }) if current == view(1, 0)));
+    assert!(rt; matches!(after_a_cut, Some(Reply::Crash { current }) if current == View::of(1, 0)));
     let without_one = answer(me, &mut cab, false);
     assert!(rt;
-        matches!(without_one, Some(Reply::Normal { current, .. }) if current == view(0, 0))
+        matches!(without_one, Some(Reply::Normal { current, .. }) if current == View::of(0, 0))
     );
     Ok(())
 }

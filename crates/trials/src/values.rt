@@ -1,20 +1,26 @@
-// Views and rows of any numbers, as the tests write them, and many puts.
+// Rows and replies of any numbers, as the tests write them, and many puts.
 use cabinet::Cabinet;
+use entries::Reply;
 use numbers::*;
 
-// `View::new` refuses numbers out of range, which the tests need too.
-pub fn view(count: u16, controller: u16) -> View {
-    View {
-        count: ViewCount { number: count },
-        controller: ControllerNumber { number: controller },
+// What a controller says of itself to a call.
+pub fn normal(current: View, length: u16, primary: bool) -> Reply {
+    Reply::Normal {
+        current,
+        length,
+        primary,
     }
+}
+
+pub fn crash(current: View) -> Reply {
+    Reply::Crash { current }
 }
 
 // The row of a current and a promised view.
 pub fn row(current: (u16, u16), promised: (u16, u16)) -> Row {
     Row {
-        current: view(current.0, current.1),
-        promised: view(promised.0, promised.1),
+        current: View::of(current.0, current.1),
+        promised: View::of(promised.0, promised.1),
     }
 }
 

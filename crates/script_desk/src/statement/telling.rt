@@ -28,27 +28,28 @@ impl fmt::Display for Roll<'_> {
     }
 }
 
+// What follows the noun of so many.
+fn were(count: u64) -> &'static str {
+    if count == 1 { " was" } else { "s were" }
+}
+
 impl Statement {
     fn tell_steps<O: Write>(&self, out: &mut O) -> io::Result<()> {
         let taken = self.taken;
-        let were = if taken == 1 { "step was" } else { "steps were" };
+        let were = were(taken);
         let refused = self.refused;
-        writeln!(out, "= {taken} {were} taken and {refused} refused.")
+        writeln!(out, "= {taken} step{were} taken and {refused} refused.")
     }
 
     fn tell_changes<O: Write>(&self, out: &mut O) -> io::Result<()> {
         let handed = self.fates.handed;
-        let were = if handed == 1 {
-            "change was"
-        } else {
-            "changes were"
-        };
+        let were = were(handed);
         let confirmed = self.fates.confirmed;
         let lost = self.fates.lost;
         let waiting = self.fates.waiting();
         writeln!(
             out,
-            "= {handed} {were} handed out: {confirmed} confirmed, {lost} lost, {waiting} still waiting."
+            "= {handed} change{were} handed out: {confirmed} confirmed, {lost} lost, {waiting} still waiting."
         )
     }
 

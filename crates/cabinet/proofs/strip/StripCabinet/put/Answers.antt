@@ -1,4 +1,4 @@
-use Rattle.std.proofs.Common.{get_or, take, drop, refl, ap, ◌∙◌, arith}
+use Rattle.std.proofs.Common.{arith}
 use Rattle.numbers.specs.Records.{row_of}
 use Rattle.cabinet.proofs.Puts.{rest_told, put_told, put_bytes_are, put_cells_are}
 use Rattle.cabinet.proofs.strip.StripCabinet.put.Goals as goal
@@ -6,26 +6,19 @@ use Rattle.cabinet.proofs.strip.StripCabinet.put.Goals as goal
 pub invariant_of-self : goal.invariant_of-self
 invariant_of-self c =
     let s = c.args.self.now in
-    let rest = c.copy_from_slice.ensures.after ∙ ap (λ z. take 7 (drop 1 z)) c.slot_of-slot.ensures.bytes in
-    record { tells = rest_told s.sound s.bytes.now c.args.cell c.in-Some.at s.tells c.in-Some.ensures.place c.in-Some.ensures.part c.in-Some.ensures.room _ 1 _ (row_of c.args.new) c.args.new.kept (omega arith) refl rest }
+    record { tells = rest_told s.sound s.bytes.now c.args.cell c.in-Some.at s.tells c.in-Some.ensures.place c.in-Some.ensures.part c.in-Some.ensures.room _ _ _ (row_of c.args.new) c.args.new.kept (omega arith) c.slot_of-slot.ensures.bytes c.copy_from_slice.ensures.after }
 
 pub invariant_of-self-2 : goal.invariant_of-self-2
 invariant_of-self-2 c =
     let s = c.args.self.now in
-    let rest = c.copy_from_slice.ensures.after ∙ ap (λ z. take 7 (drop 1 z)) c.slot_of-slot.ensures.bytes in
-    let first = ap (λ z. get_or z 0 0) c.slot_of-slot.ensures.bytes in
-    record { tells = put_told s.sound s.bytes.now c.args.cell c.in-Some.at s.tells c.in-Some.ensures.place c.in-Some.ensures.part c.in-Some.ensures.room _ _ _ (row_of c.args.new) c.args.new.kept (omega arith) first rest }
+    record { tells = put_told s.sound s.bytes.now c.args.cell c.in-Some.at s.tells c.in-Some.ensures.place c.in-Some.ensures.part c.in-Some.ensures.room _ _ _ (row_of c.args.new) c.args.new.kept (omega arith) c.slot_of-slot.ensures.bytes c.copy_from_slice.ensures.after }
 
 pub returns-clause-after : goal.returns-clause-after
 returns-clause-after c =
     let s = c.args.self.now in
-    let rest = c.copy_from_slice.ensures.after ∙ ap (λ z. take 7 (drop 1 z)) c.slot_of-slot.ensures.bytes in
-    let first = ap (λ z. get_or z 0 0) c.slot_of-slot.ensures.bytes in
-    put_cells_are s.sound s.bytes.now c.args.cell c.in-Some.at s.tells c.in-Some.ensures.place c.in-Some.ensures.part c.in-Some.ensures.room _ _ _ (row_of c.args.new) c.args.new.kept (omega arith) first rest
+    put_cells_are s.sound s.bytes.now c.args.cell c.in-Some.at s.tells c.in-Some.ensures.place c.in-Some.ensures.part c.in-Some.ensures.room _ _ _ (row_of c.args.new) c.args.new.kept (omega arith) c.slot_of-slot.ensures.bytes c.copy_from_slice.ensures.after
 
 pub returns-clause-bytes : goal.returns-clause-bytes
 returns-clause-bytes c =
     let s = c.args.self.now in
-    let rest = c.copy_from_slice.ensures.after ∙ ap (λ z. take 7 (drop 1 z)) c.slot_of-slot.ensures.bytes in
-    let first = ap (λ z. get_or z 0 0) c.slot_of-slot.ensures.bytes in
-    put_bytes_are s.sound s.bytes.now c.args.cell c.in-Some.at s.tells c.in-Some.ensures.place c.in-Some.ensures.part c.in-Some.ensures.room _ _ _ (row_of c.args.new) c.args.new.kept (omega arith) first rest
+    put_bytes_are s.sound s.bytes.now c.args.cell c.in-Some.at s.tells c.in-Some.ensures.place c.in-Some.ensures.part c.in-Some.ensures.room _ _ _ (row_of c.args.new) c.args.new.kept (omega arith) c.slot_of-slot.ensures.bytes c.copy_from_slice.ensures.after
