@@ -42,7 +42,6 @@ def functions():
         text = path.read_text()
         for match in re.finditer(r"^( *)(?:pub(?:\([a-z]+\))? )?fn (\w+)", text, re.M):
             indent = match.group(1)
-            end = re.compile(rf"^{indent}}}$|;$|\}};?$", re.M)
             close = re.search(rf"^{indent}(\}}|\{{\}})$", text[match.start():], re.M)
             whole = text[match.start():match.start() + close.end()] if close else ""
             head, _, body = whole.partition(f"\n{indent}{{\n")
