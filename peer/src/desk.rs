@@ -2,6 +2,7 @@
 
 use std::fmt::Write;
 
+use crate::account::Account;
 use crate::cabinet::{Cabinet, Strip, Tray, Worn};
 use crate::controller::{Answer, Status};
 use crate::entries::{CardChange, Entry, HoursChange, Kind, Light, Question};
@@ -9,7 +10,7 @@ use crate::forming::Choice;
 use crate::message::{Body, Message, MessageKind};
 use crate::numbers::{CELLS, CellRecord, ControllerNumber, PlainView, Slip, Stamp};
 use crate::refusal::Fault;
-use crate::script::{BadLine, CabinetSetup, KindName, SITE_EXPECTED, STEP_EXPECTED, Setup, Step, lines, words};
+use crate::script::{BadLine, CabinetSetup, KindName, SITE_EXPECTED, Setup, Step, lines, words};
 use crate::site::{Lent, Settled, Site};
 
 /// A kind of change that scripts can write as three numbers.
@@ -284,6 +285,8 @@ pub struct Tally {
     pub scripts: u64,
     /// Scripts whose make was refused.
     pub unmade: u64,
+    /// Scripts that ended at a line that was none of those expected.
+    pub ended: u64,
     pub taken: u64,
     pub refused: u64,
     /// By number; 0 stays unused.
@@ -324,60 +327,62 @@ impl Tally {
     }
 }
 
-/// The report of a script: its text, and the line that ended it early, if any.
+/// The report of a script: its text, the line that ended it early, if any, and what its steps amount to.
 pub struct Report {
     pub text: String,
     pub bad: Option<BadLine>,
+    pub account: Account,
 }
 
 /// Runs a script and adds what happened to the tally.
 pub fn run(script: &[u8], tally: &mut Tally) -> Report {
+    let mut report = Report { text: String::new(), bad: None, account: Account::default() };
+    report.bad = run_lines(script, &mut report, tally).err();
+    tally.scripts += 1;
+    tally.ended += u64::from(report.bad.is_some());
+    report
+}
+
+fn run_lines(script: &[u8], report: &mut Report, tally: &mut Tally) -> Result<(), BadLine> {
     let lines = lines(script);
     let after = lines.len() + 1;
-    let mut numbered = (1..).zip(lines).map(|(line, text)| (line, words(text))).filter(|(_, words)| !words.is_empty());
-    let mut text = String::new();
-    let setup = match numbered.next() {
-        None => Err(BadLine { line: after, expected: SITE_EXPECTED }),
-        Some((line, words)) => Setup::read(&words).map_err(|expected| BadLine { line, expected }),
-    };
-    let bad = match setup {
-        Err(bad) => Some(bad),
-        Ok(setup) => {
-            let ended = match setup.kind {
-                KindName::Cards => run_steps::<CardChange>(&setup, numbered, after, &mut text, tally),
-                KindName::Hours => run_steps::<HoursChange>(&setup, numbered, after, &mut text, tally),
-            };
-            ended.err()
-        }
-    };
-    Report { text, bad }
+    let read = |(line, text)| words(text).map(|words| (line, words)).map_err(|expected| BadLine { line, expected });
+    let said = |read: &Result<(usize, Words), BadLine>| read.as_ref().map_or(true, |(_, words)| !words.is_empty());
+    let mut numbered = (1..).zip(lines).map(read).filter(said);
+    // Only the line that makes the site has to be there.
+    let (line, words) = numbered.next().unwrap_or(Err(BadLine { line: after, expected: SITE_EXPECTED }))?;
+    let setup = Setup::read(&words).map_err(|expected| BadLine { line, expected })?;
+    match setup.kind {
+        KindName::Cards => run_steps::<CardChange>(&setup, numbered, report, tally),
+        KindName::Hours => run_steps::<HoursChange>(&setup, numbered, report, tally),
+    }
 }
+
+type Words<'s> = Vec<&'s [u8]>;
 
 fn run_steps<'s, K: Written>(
     setup: &Setup,
-    numbered: impl Iterator<Item = (usize, Vec<&'s [u8]>)>,
-    after: usize,
-    text: &mut String,
+    numbered: impl Iterator<Item = Result<(usize, Words<'s>), BadLine>>,
+    Report { text, account, .. }: &mut Report,
     tally: &mut Tally,
 ) -> Result<(), BadLine> {
     let mut bytes = strip_bytes(setup);
     let (mut desk, made) = Desk::<K>::open(setup, &mut bytes);
-    tally.scripts += 1;
+    account.made = made.is_ok();
     tally.unmade += u64::from(made.is_err());
     match made {
         Ok(()) => text.push_str("made\n"),
         Err(fault) => report_refusal("site", &fault, text),
     }
-    let mut without_step = true;
-    for (line, words) in numbered {
+    for read in numbered {
+        let (line, words) = read?;
         let step = Step::read(setup.kind, &words).map_err(|expected| BadLine { line, expected })?;
-        without_step = false;
         let outcome = desk.step(&step);
         tally.note(&step, &outcome);
+        account.note(&step, &outcome);
         report(&step, &outcome, &desk, text);
     }
-    // A script without any step is ended like one with a bad line. The line that makes the site is no step.
-    if without_step { Err(BadLine { line: after, expected: STEP_EXPECTED }) } else { Ok(()) }
+    Ok(())
 }
 
 /// Writes what a step did.

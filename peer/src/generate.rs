@@ -26,8 +26,10 @@ fn script_of<K: Written>(setup: &Setup, mut random: Random, steps: usize, seed: 
     let mut text = format!("# seed {seed}, {steps} steps\n");
     write_line(&mut random, setup.words(), &mut text);
     let bad_end = random.chance(30);
+    // A desk may gather steps until something has to be shown, so some scripts show little.
+    let (soon, late) = if random.chance(100) { (1_500, 3_000) } else { (20, 50) };
     let mut maker = Maker::new(setup.kind, random);
-    let mut until_show = maker.random.from_to(20, 50);
+    let mut until_show = maker.random.from_to(soon, late);
     for _ in 0..steps {
         let step = maker.choose(&desk);
         let outcome = desk.step(&step);
@@ -35,7 +37,7 @@ fn script_of<K: Written>(setup: &Setup, mut random: Random, steps: usize, seed: 
         write_line(&mut maker.random, step.words(setup.kind), &mut text);
         until_show -= 1;
         if until_show == 0 {
-            until_show = maker.random.from_to(20, 50);
+            until_show = maker.random.from_to(soon, late);
             write_line(&mut maker.random, Step::Show.words(setup.kind), &mut text);
         }
     }
@@ -136,7 +138,8 @@ pub fn random_setup(random: &mut Random) -> Setup {
         56..61 => CabinetSetup::Strip(random.one_of(&[56, 112])),
         61..69 => CabinetSetup::Strip(560),
         69..84 => CabinetSetup::Strip(57_344),
-        84..97 => CabinetSetup::Strip(56 * random.from_to(3, 60)),
+        84..95 => CabinetSetup::Strip(56 * random.from_to(3, 60)),
+        // 57,400 is 1,025 times 56.
         _ => CabinetSetup::Strip(random.one_of(&[0, 1, 55, 57, 7 * 9, 57_343, 57_345, 57_400, 65_535])),
     };
     Setup { kind, n, cap, pool, cabinet }
@@ -213,6 +216,8 @@ pub struct Maker {
     pub random: Random,
     mood: Mood,
     mood_left: u16,
+    /// The steps chosen so far, as long as they are few.
+    chosen: u16,
     /// Of a thousand steps, those with any numbers, and those with numbers of the site but no sense.
     wild: u32,
     blind: u32,
@@ -223,7 +228,7 @@ impl Maker {
     pub fn new(kind: KindName, mut random: Random) -> Maker {
         let mood = Mood::random(&mut random);
         let (wild, blind) = (u32::from(random.from_to(40, 70)), u32::from(random.from_to(50, 80)));
-        Maker { kind, random, mood, mood_left: 40, wild, blind, slips: Vec::new() }
+        Maker { kind, random, mood, mood_left: 40, chosen: 0, wild, blind, slips: Vec::new() }
     }
 
     /// The next step, which is never a show.
@@ -233,6 +238,10 @@ impl Maker {
             self.mood_left = self.random.from_to(20, 80);
         }
         self.mood_left -= 1;
+        self.chosen = self.chosen.saturating_add(1);
+        if let Some(call) = self.early_call(desk) {
+            return call;
+        }
         if !desk.site.is_made() || self.random.chance(self.wild) {
             return self.any_step(desk, false);
         }
@@ -240,6 +249,13 @@ impl Maker {
             return self.any_step(desk, true);
         }
         self.likely_step(desk)
+    }
+
+    /// Of the first steps, each second one tries another cell if that has no writes, as all of a strip of a wrong size.
+    fn early_call<K: Written>(&self, desk: &Desk<'_, K>) -> Option<Step> {
+        let i = self.chosen / 2;
+        let due = self.chosen.is_multiple_of(2) && desk.site.is_made() && i < desk.site.n();
+        (due && desk.cabinet.worn(i)).then_some(Step::Call { i })
     }
 
     /// Remembers slips, and which of them are closed.

@@ -1,9 +1,10 @@
 //! The rules of docs/RULES.md written a second time, in plain Rust, to be compared with the first.
 //!
 //! The layers, lowest first: [`refusal`] and [`numbers`], [`entries`], [`cabinet`], [`controller`] with
-//! [`forming`] and [`message`], and [`site`]. Above them are [`script`] and [`desk`], which run scripts of
-//! docs/SCRIPTS.md, and [`random`], [`generate`] and [`compare`], which make scripts and compare reports.
+//! [`forming`] and [`message`], and [`site`]. Above them are [`script`], [`desk`] and [`account`], which run scripts of
+//! docs/SCRIPTS.md, and [`random`], [`generate`], [`spoil`] and [`compare`], which make scripts and compare reports.
 
+pub mod account;
 pub mod cabinet;
 pub mod compare;
 pub mod controller;
@@ -17,6 +18,7 @@ pub mod random;
 pub mod refusal;
 pub mod script;
 pub mod site;
+pub mod spoil;
 
 pub use cabinet::{Cabinet, Strip, Tray, Worn};
 pub use controller::{Answer, Answers, Controller, Lengths, Status};

@@ -6,7 +6,7 @@ use std::process::ExitCode;
 
 use peer::compare::{compare, summary};
 use peer::desk::{Tally, run};
-use peer::generate::script;
+use peer::spoil::script;
 
 const USAGE: &str = "usage: peer run [FILE] | peer make SEED STEPS | peer compare DESK SCRIPTS STEPS SEED";
 
@@ -34,13 +34,13 @@ fn act(arguments: &[OsString]) -> Result<(), String> {
             run_script(&text)
         }
         (Some("make"), [seed, steps]) => {
-            print(&script(number(seed)?, number(steps)? as usize));
+            print(&script(number(seed)?, number(steps)? as usize).0);
             Ok(())
         }
         (Some("compare"), [desk, scripts, steps, seed]) => {
             let steps = number(steps)? as usize;
             let tally = compare(desk, number(scripts)?, steps, number(seed)?).map_err(|found| found.to_string())?;
-            print(&format!("{}\n", summary(&tally, steps)));
+            print(format!("{}\n", summary(&tally, steps)).as_bytes());
             Ok(())
         }
         _ => Err(USAGE.into()),
@@ -49,7 +49,7 @@ fn act(arguments: &[OsString]) -> Result<(), String> {
 
 fn run_script(text: &[u8]) -> Result<(), String> {
     let report = run(text, &mut Tally::default());
-    print(&report.text);
+    print(report.text.as_bytes());
     match report.bad {
         Some(bad) => Err(format!("line {}: {}", bad.line, bad.expected)),
         None => Ok(()),
@@ -61,6 +61,6 @@ fn number(word: &OsString) -> Result<u64, String> {
 }
 
 /// Prints all at once. A reader that has gone away is no fault of ours.
-fn print(text: &str) {
-    let _ = std::io::stdout().write_all(text.as_bytes());
+fn print(text: &[u8]) {
+    let _ = std::io::stdout().write_all(text);
 }

@@ -55,6 +55,11 @@ pub const SITE_EXPECTED: &str = "expected \"site cards|hours N CAP POOL tray W\"
 pub const STEP_EXPECTED: &str =
     "expected a step: change, pass, call, invite, form, deliver, join, settle, lookup, crash, recover, lose or show";
 
+pub const LINE_EXPECTED: &str = "expected a line of at most 65536 bytes";
+
+/// The most bytes of a line, its line feed not counted.
+pub const LONGEST_LINE: usize = 65_536;
+
 /// The lines of a script. A line feed at the end of the text begins no further line.
 pub fn lines(text: &[u8]) -> Vec<&[u8]> {
     let mut lines: Vec<&[u8]> = text.split(|byte| *byte == b'\n').collect();
@@ -64,11 +69,14 @@ pub fn lines(text: &[u8]) -> Vec<&[u8]> {
     lines
 }
 
-/// The words of a line: without a carriage return at its end, and without its comment.
-pub fn words(line: &[u8]) -> Vec<&[u8]> {
+/// The words of a line that is not too long: without a carriage return at its end, and without its comment.
+pub fn words(line: &[u8]) -> Result<Vec<&[u8]>, &'static str> {
+    if line.len() > LONGEST_LINE {
+        return Err(LINE_EXPECTED);
+    }
     let line = line.strip_suffix(b"\r").unwrap_or(line);
     let line = line.split(|byte| *byte == b'#').next().unwrap_or(line);
-    line.split(|byte| matches!(byte, b' ' | b'\t')).filter(|word| !word.is_empty()).collect()
+    Ok(line.split(|byte| matches!(byte, b' ' | b'\t')).filter(|word| !word.is_empty()).collect())
 }
 
 /// Decimal digits, of any number, with a value of at most 65,535.

@@ -5,7 +5,7 @@ use Rattle.std.proofs.lemmas.List.FromFn.{length-map-range_with_len, get_or-map-
 use Rattle.std.proofs.lemmas.List.{get_or-set_same, get_or-set_other, length-drop, length-set, length-take}
 use Rattle.std.proofs.lemmas.Bool.{cases_eq, cases_lt}
 use Rattle.cabinet.specs.declared.cells.Cell.{Cell}
-use Rattle.cabinet.specs.Slots.{slots_in, filled, part_cell, PartForm, part_size, part, StripForm, next_slot}
+use Rattle.cabinet.specs.Slots.{slots_in, filled, part_cell, PartForm, part_size, part, StripForm, Counted, next_slot}
 use Rattle.cabinet.proofs.Blocks.{over, over_length, over_over, block_here, block_before, block_after}
 
 -- a part begins no earlier than the one before it ends
@@ -99,3 +99,18 @@ module _ (bs : List ℕ) (c n : ℕ) (s : List ℕ) (lt : c < 7) (room : n < slo
   -- and its other cells stay as they are
   pub written_cells : (x : Cell) → part_cell part_written ≡ x → map (λ d. part_cell (part written d)) (range_with_len 0 7) ≡ set (map (λ d. part_cell (part bs d)) (range_with_len 0 7)) c x
   written_cells x e = counted_set (λ d. part_cell (part bs d)) (λ d. part_cell (part written d)) 7 c x lt (ap part_cell part_here ∙ e) (λ d h ne. ap part_cell (part_else d ne))
+
+  -- the counts of all parts where that one is still so, and where it is another
+  pub written_counted : (ns : List ℕ) → get_or ns c 0 ≡ filled part_written → Counted ns bs → Counted ns written
+  written_counted ns here counted d h =
+      ⊎_elim
+      (λ e. ap (λ j. get_or ns j 0) e ∙ here ∙ sym (ap (λ j. filled (part written j)) e ∙ ap filled part_here))
+      (λ ne. counted d h ∙ sym (ap filled (part_else d ne)))
+      (cases_eq d c)
+
+  pub written_counts : (ns : List ℕ) (m : ℕ) → c < length ns → m ≡ filled part_written → Counted ns bs → Counted (set ns c m) written
+  written_counts ns m within here counted d h =
+      ⊎_elim
+      (λ e. ap (λ j. get_or (set ns c m) j 0) e ∙ get_or-set_same ns c m 0 within ∙ here ∙ sym (ap (λ j. filled (part written j)) e ∙ ap filled part_here))
+      (λ ne. get_or-set_other ns c d m 0 ne ∙ counted d h ∙ sym (ap filled (part_else d ne)))
+      (cases_eq d c)

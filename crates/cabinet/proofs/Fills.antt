@@ -48,7 +48,7 @@ module _ (p s : List ℕ) (form : PartForm p) (room : filled p < slots_in p) (lo
   free_here : is_filled still (filled p) ≡ false
   free_here = filled_here p (filled p) s room long ∙ ap (λ b. not (eqb b 0)) free
 
-  free_filled : filled still ≡ filled p
+  pub free_filled : filled still ≡ filled p
   free_filled =
       filled_only still (filled p) (omega (arith, free_slots))
       (λ k h. filled_other p (filled p) s room long k (omega arith) ∙ filled_before p k h)
@@ -71,7 +71,7 @@ module _ (p : List ℕ) (w : Row) (form : PartForm p) (room : filled p < slots_i
   fill_slots : slots_in after ≡ slots_in p
   fill_slots = ap (λ n. n / 8) (write_length p (filled p) (slot_bytes w) room refl)
 
-  fill_filled : filled after ≡ filled p + 1
+  pub fill_filled : filled after ≡ filled p + 1
   fill_filled =
       filled_only after (filled p + 1) (omega (arith, fill_slots))
       (below_more _ (filled p) (λ k h. filled_other p (filled p) (slot_bytes w) room refl k (omega arith) ∙ filled_before p k h) (filled_here p (filled p) (slot_bytes w) room refl))

@@ -8,10 +8,10 @@ use Rattle.numbers.specs.declared.rows.Row.{Row}
 use Rattle.numbers.specs.Rows.{row_ok}
 use Rattle.cabinet.specs.Cells.{is_worn, put_cells}
 use Rattle.cabinet.specs.declared.cells.Cell.{Cell}
-use Rattle.cabinet.specs.Slots.{slot_bytes, with_slot, slots_in, filled, part_cell, part_size, part, StripForm, strip_cells, next_slot, put_bytes}
+use Rattle.cabinet.specs.Slots.{slot_bytes, with_slot, slots_in, filled, part_cell, part_size, part, StripForm, Counted, strip_cells, next_slot, put_bytes}
 use Rattle.cabinet.proofs.Blocks.{over, rest_written, all_written}
-use Rattle.cabinet.proofs.Cuts.{part_length, written_form, written_cells}
-use Rattle.cabinet.proofs.Fills.{free_form, fill_form, fill_cell}
+use Rattle.cabinet.proofs.Cuts.{part_length, written_form, written_cells, written_counted, written_counts}
+use Rattle.cabinet.proofs.Fills.{free_form, free_filled, fill_form, fill_filled, fill_cell}
 use Rattle.cabinet.proofs.Search.{filled_stop}
 use Rattle.cabinet.proofs.Strips.{cell_sound}
 
@@ -83,3 +83,21 @@ module _ (flag : Bool) (bs : List ℕ) (c i : ℕ) (told : Decides flag (StripFo
 
   pub put_cells_are : strip_cells flag (set (put_mid (i + 1) k bs rest) i (get_or slot 0 0)) ≡ put_cells (strip_cells flag bs) c v
   put_cells_are = ap (strip_cells flag) written ∙ put_done
+
+  -- the counts hold until the first byte comes, and with one more after it
+  module _ (ns : List ℕ) (counted : Counted ns bs) where
+    pub rest_counted : Counted ns (put_mid (i + 1) k bs rest)
+    rest_counted =
+        let p = part bs c in
+        let long : length (0 ∷ rest) ≡ 8 = ap (λ z. length (0 ∷ z)) later in
+        let whole = rest_written bs rest i 8 k 0 fits (omega arith) ∙ ap (λ z. over bs i 8 (z ∷ rest)) slot_free ∙ ap (λ j. over bs j 8 (0 ∷ rest)) place in
+        let same = free_filled p (0 ∷ rest) (form.parts c mine.1) mine.2 long refl in
+        subst (Counted ns) (sym whole) (written_counted bs c (filled p) (0 ∷ rest) mine.1 mine.2 long ns (counted c mine.1 ∙ sym same) counted)
+
+    pub put_counted : length ns ≡ 7 → Counted (set ns c (get_or ns c 0 + 1)) (set (put_mid (i + 1) k bs rest) i (get_or slot 0 0))
+    put_counted size =
+        let p = part bs c in
+        let one : get_or ns c 0 + 1 ≡ filled p + 1 = ap (λ n. n + 1) (counted c mine.1) in
+        let more = one ∙ sym (fill_filled p v (form.parts c mine.1) mine.2) in
+        let after = written ∙ ap (λ j. with_slot bs j v) place in
+        subst (Counted (set ns c (get_or ns c 0 + 1))) (sym after) (written_counts bs c (filled p) (slot_bytes v) mine.1 mine.2 refl ns (get_or ns c 0 + 1) (omega (arith, mine.1, size)) more counted)

@@ -15,7 +15,7 @@ module _ (p : List ℕ) where
   place : (k : ℕ) → k < slots_in p → is_filled p (get_or places k 0) ≡ is_filled p k
   place k h = ap (is_filled p) (omega (arith, get_or-range_with_len 0 (slots_in p) k 0 h))
 
-  most : filled p ≤ slots_in p
+  pub most : filled p ≤ slots_in p
   most = omega (arith, count, prefix_len-le-length (is_filled p) places)
 
   pub filled_before : (k : ℕ) → k < filled p → is_filled p k ≡ true

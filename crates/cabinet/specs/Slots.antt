@@ -71,6 +71,10 @@ pub record StripForm (bs : List ℕ) : Type 0 where
   pub most : length bs ≤ 57344
   pub parts : (c : ℕ) → c < 7 → PartForm (part bs c)
 
+-- so many slots of each part are filled
+abbrev pub Counted : List ℕ → List ℕ → Type 0
+Counted ns bs = (c : ℕ) → c < 7 → slice_index ns c ≡ filled (part bs c)
+
 -- the cells of a strip; where its bytes are not in form, every cell is worn at twice (0, 0)
 abbrev pub strip_cells : Bool → List ℕ → List Cell
 strip_cells true bs = map (λ c. part_cell (part bs c)) (range_with_len 0 7)

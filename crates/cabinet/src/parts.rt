@@ -27,12 +27,13 @@ pub fn is_in_form(part: &[u8]) -> bool
     })
 }
 
-// The record of the last filled slot, or twice the view (0, 0).
-pub fn last_record(part: &[u8]) -> CellRecord
-    requires { PartForm part.now }
+// The record of the last of n filled slots, or twice the view (0, 0).
+pub fn last_record(part: &[u8], n: usize) -> CellRecord
+    requires form { PartForm part.now }
+    requires count { n ≡ filled part.now }
+    requires bound { n ≤ slots_in part.now }
     ensures { row_of result ≡ (part_cell part.now).row }
 {
-    let n = filled_slots(part);
     if n == 0 {
         return CellRecord::zero();
     }

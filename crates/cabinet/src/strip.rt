@@ -3,19 +3,24 @@ ghost use Rattle.std.specs.Prelude.{◌≡◌, ℕ, ◌+◌, ◌<◌, ◌≤◌,
 ghost use Rattle.numbers.specs.Records.{row_of};
 ghost use Rattle.numbers.specs.Refusals.{refusal};
 ghost use Rattle.cabinet.specs.Cells.{fresh, cell_at, is_worn, put_cells};
-ghost use Rattle.cabinet.specs.Slots.{slots_in, filled, part, part_cell, PartForm, StripForm, next_slot, put_bytes};
+ghost use Rattle.cabinet.specs.Slots.{slots_in, filled, part, part_cell, PartForm, StripForm, Counted, next_slot, put_bytes};
 
 use crate::cells::Worn;
 use crate::meaning::Cabinet;
 use crate::parts::{filled_slots, is_in_form, last_record};
 use crate::slots::slot_of;
 use numbers::{CellRecord, Refusal};
+use std::array::from_fn;
 
 #[derive(Drop)]
 pub struct Strip<'a> {
     bytes: &'a mut [u8],
     // whether the bytes are in form; a flag beside them, since they stay lent where they are not
     sound: bool,
+    // how many slots of each part are filled, so that no call has to search
+    counts: [usize; 7],
+    ghost seven: { length counts ≡ 7 },
+    ghost counted: { Counted counts bytes.now },
     ghost tells: { Decides sound (StripForm bytes.now) },
 }
 
@@ -40,7 +45,12 @@ impl<'a> Strip<'a> {
         ensures tells { Decides result.sound (StripForm bytes.old) }
     {
         let sound = bytes_are_in_form(bytes);
-        Strip { bytes, sound }
+        let counts = filled_counts(bytes);
+        Strip {
+            bytes,
+            sound,
+            counts,
+        }
     }
 
     // The part of a cell; none where the bytes are not in form, or for a cell of 7 or more.
@@ -56,6 +66,15 @@ impl<'a> Strip<'a> {
         Some(part_of(self.bytes, cell as usize))
     }
 
+    // How many slots of a cell's part are filled.
+    fn filled(&self, cell: u16, slots: &[u8]) -> usize
+        requires { (cell < 7) × (slots.now ≡ part (bytes_in self.now) cell) }
+        ensures value { result ≡ filled slots.now }
+        ensures bound { result ≤ slots_in slots.now }
+    {
+        self.counts[cell as usize]
+    }
+
     // Where the first empty slot of a cell begins; none where the cell has no writes left.
     fn first_empty(&self, cell: u16) -> Option<usize>
         ensures place { result ≡ (if is_worn (cells_in self.now) cell then None else Some (next_slot (bytes_in self.now) cell)) }
@@ -63,7 +82,7 @@ impl<'a> Strip<'a> {
         ensures room { IfSome result (λ at. at + 8 ≤ length (bytes_in self.now)) }
     {
         let part = self.part(cell)?;
-        let n = filled_slots(part);
+        let n = self.filled(cell, part);
         if n == part.len() / 8 {
             return None;
         }
@@ -77,7 +96,7 @@ impl<'a> Strip<'a> {
         let Some(part) = self.part(cell) else {
             return 0;
         };
-        (part.len() / 8 - filled_slots(part)) as u16
+        (part.len() / 8 - self.filled(cell, part)) as u16
     }
 }
 
@@ -88,6 +107,14 @@ fn part_of(bytes: &[u8], cell: usize) -> &[u8]
 {
     let size = bytes.len() / 7;
     &bytes[cell * size..cell * size + size]
+}
+
+// How many slots of each part are filled.
+fn filled_counts(bytes: &[u8]) -> [usize; 7]
+    ensures seven { length result ≡ 7 }
+    ensures counted { Counted result bytes.now }
+{
+    from_fn(|cell| filled_slots(part_of(bytes, cell)))
 }
 
 // Whether all seven parts are in form.
@@ -112,7 +139,7 @@ impl<'a> Cabinet for Strip<'a> {
 
     fn held(&self, cell: u16) -> CellRecord {
         match self.part(cell) {
-            Some(part) => last_record(part),
+            Some(part) => last_record(part, self.filled(cell, part)),
             None => CellRecord::zero(),
         }
     }
@@ -136,6 +163,7 @@ impl<'a> Cabinet for Strip<'a> {
         let slot = slot_of(new);
         self.bytes[at + 1..at + 8].copy_from_slice(&slot[1..]);
         self.bytes[at] = slot[0];
+        self.counts[cell as usize] += 1;
         Ok(())
     }
 }

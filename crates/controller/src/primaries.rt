@@ -38,7 +38,7 @@ pub fn change<E: Copy>(
     let view = row.views.current;
     append(me, row, book, Entry { view, change: x });
     let place = Place { number: row.length };
-    Ok(Slip::from(Stamp { view, place }))
+    Ok(Slip::of(Stamp { view, place }))
 }
 
 // The entry at a place is to go to another controller.

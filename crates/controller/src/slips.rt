@@ -18,25 +18,21 @@ pub enum Settled {
     Waiting { slip: Slip },
 }
 
-// The slip of a stamp.
-impl From<Stamp> for Slip {
-    ghost use Rattle.controller.specs.Slips.{slip_of};
-
-    ghost from_gives = { λ stamp slip. slip ≡ slip_of stamp };
-
-    fn from(stamp: Stamp) -> Slip {
-        Slip { stamp }
-    }
-}
-
 impl Slip {
     ghost use Rattle.controller.specs.Slips.{slip_of, stamp_on};
+
+    // The slip of a stamp. In this crate alone: whoever has but numbers takes a slip up, and is asked 17.
+    pub(crate) fn of(stamp: Stamp) -> Slip
+        ensures { result ≡ slip_of stamp }
+    {
+        Slip { stamp }
+    }
 
     // Takes a slip up from its numbers; refused where they do not keep the form of a stamp.
     pub fn take_up(count: u16, controller: u16, place: u16) -> Result<Slip, Refusal>
         ensures { result ≡ (if stamp_ok (stamp_of count controller place) then Ok (slip_of (stamp_of count controller place)) else Err (refusal 17)) }
     {
-        Ok(Slip::from(Stamp::new(count, controller, place)?))
+        Ok(Slip::of(Stamp::new(count, controller, place)?))
     }
 
     // The stamp that the slip stands for.

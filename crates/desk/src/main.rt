@@ -1,89 +1,95 @@
-// The desk: takes changes, questions and cell records a line at a time, and says what it did.
+// The desk: runs a script of steps on a site, and reports what came of each.
 #![tactic(auto)]
 
-ghost use Rattle.std.specs.Prelude.{◌≡◌, [], ◌∷◌, ◌++◌, is_ok, if◌then◌else◌};
-ghost use Rattle.numbers.specs.Views.{view_of};
+use cabinet::{Strip, Tray};
+use entries::{CardChange, HoursChange};
+use kinds::Written;
+use orders::{KindName, Setup, Store};
+use script::Script;
+use serving::{Desk, serve};
+use std::alloc::Global;
+use std::env;
+use std::fs::File;
+use std::io::{BufRead, BufReader, BufWriter, Read, Write};
+use std::process::ExitCode;
+use troubles::Trouble;
 
-use cabinet::*;
-use entries::*;
-use numbers::*;
-use orders::Order;
-use std::alloc::AllocFailed;
-
+mod cabinets;
+mod fates;
+mod kinds;
+mod memory;
 mod orders;
+mod report;
+mod script;
+mod serving;
+mod showing;
+mod spelling;
+mod statement;
+mod troubles;
+mod views;
+mod words;
 
-// Appends a change, taken in the view (0, 0).
-fn note<E: Kind + Drop>(book: &mut Vec<Entry<E>>, change: E) -> Result<(), AllocFailed<Entry<E>>>
-    ensures { book.new.items ≡ (if is_ok result then (book.old.items ++ record { view = view_of 0 0; change = change } ∷ []) else book.old.items) }
-{
-    book.push(Entry {
-        view: View::ZERO,
-        change,
-    })
+// Serves a script of one kind of change, with the cabinet that its first line names.
+fn open<E: Written, R: BufRead + Drop, O: Write>(
+    heap: Global,
+    setup: Setup,
+    script: &mut Script<R>,
+    out: &mut O,
+) -> Result<(), Trouble> {
+    match setup.store {
+        Store::Tray { left } => {
+            let mut tray = Tray::new([left; 7]);
+            serve(Desk::<E, _, _>::new(heap, setup, &mut tray, out)?, script)
+        }
+        Store::Strip { bytes } => {
+            let mut memory = vec![in heap; 0; bytes as usize]?;
+            let mut strip = Strip::new(memory.as_mut_slice());
+            serve(Desk::<E, _, _>::new(heap, setup, &mut strip, out)?, script)
+        }
+    }
 }
 
-// The words stand here: a `Display` of another crate's `Answer` can't; `script_desk`, another program,
-// has its own.
-fn say(rt: &HostRuntime, answer: Answer) -> anyhow::Result<()> {
-    let word = match answer {
-        Answer::Green => "green",
-        Answer::Red => "red",
+fn work<R: Read + Drop, O: Write>(heap: Global, source: R, out: &mut O) -> Result<(), Trouble> {
+    let mut script = Script::new(BufReader::new(heap, source)?, heap);
+    let Some(setup) = script.next::<Setup>()? else {
+        return Err(script.expected(orders::SITE));
     };
-    println!(rt; "  {word}")?;
-    Ok(())
+    match setup.kind {
+        KindName::Cards => open::<CardChange, _, _>(heap, setup, &mut script, out),
+        KindName::Hours => open::<HoursChange, _, _>(heap, setup, &mut script, out),
+    }
 }
 
-// Puts the row, if there is one, into a cell of the cabinet with that name, and says what the cell
-// then holds.
-fn use_cell<C: Cabinet>(
-    rt: &HostRuntime,
-    name: &str,
-    cabinet: &mut C,
-    cell: u16,
-    row: Option<Row>,
-) -> anyhow::Result<()> {
-    if let Some(row) = row {
-        match CellRecord::try_from(row) {
-            Ok(new) => {
-                if cabinet.put(cell, new).is_err() {
-                    println!(rt; "  {name}: refused, the cell is worn")?;
-                }
-            }
-            Err(_) => println!(rt; "  {name}: refused, no record has these views")?,
+fn work_file<O: Write>(rt: &HostRuntime, name: String, out: &mut O) -> Result<(), Trouble> {
+    let done = match File::open(rt, name.as_str()) {
+        Ok(file) => work(rt.alloc(), file, out),
+        Err(error) => Err(Trouble::Reading(error)),
+    };
+    done.map_err(|trouble| trouble.in_file(name))
+}
+
+// Takes the script from the file that the program is given, or else from standard input.
+fn begin(rt: &HostRuntime) -> Result<(), Trouble> {
+    let mut args = env::args(rt)?.skip(1);
+    let name = args.next();
+    if args.next().is_some() {
+        return Err(Trouble::Arguments);
+    }
+    let mut out = BufWriter::new(rt.alloc(), rt.stdout())?;
+    let done = match name {
+        Some(name) => work_file(rt, name, &mut out),
+        None => work(rt.alloc(), rt.stdin(), &mut out),
+    };
+    out.flush()?;
+    done
+}
+
+fn main(rt: HostRuntime) -> ExitCode {
+    match begin(&rt) {
+        Ok(()) => ExitCode::SUCCESS,
+        Err(trouble) => {
+            let _ = rt.stderr().println(&trouble);
+            ExitCode::FAILURE
         }
     }
-    let Row { current, promised } = cabinet.held(cell).row();
-    let (a, b) = (current.count.number, current.controller.number);
-    let (c, d) = (promised.count.number, promised.controller.number);
-    println!(rt; "  {name}: current ({a}, {b}), promised ({c}, {d})")?;
-    Ok(())
-}
-
-fn run(rt: &HostRuntime) -> anyhow::Result<()> {
-    let mut cards = Vec::new(rt.alloc());
-    let mut hours = Vec::new(rt.alloc());
-    let mut tray = Tray::new([1; 7]);
-    let mut bytes = [0; 112];
-    let mut strip = Strip::new(&mut bytes);
-    for line in rt.lines(rt.alloc()) {
-        let text = line?;
-        println!(rt; "{text}")?;
-        match text.parse::<Order>()? {
-            Order::Card(change) => note(&mut cards, change)?,
-            Order::Hours(change) => note(&mut hours, change)?,
-            Order::AskCard(question) => say(rt, lookup(cards.as_slice(), question))?,
-            Order::AskDoor(question) => say(rt, lookup(hours.as_slice(), question))?,
-            Order::Cell(cell, row) => {
-                use_cell(rt, "tray", &mut tray, cell, row)?;
-                use_cell(rt, "strip", &mut strip, cell, row)?
-            }
-            Order::Remark => {}
-            Order::Unknown => println!(rt; "  no such order")?,
-        }
-    }
-    Ok(())
-}
-
-fn main(rt: HostRuntime) -> anyhow::Result<()> {
-    run(&rt)
 }

@@ -11,14 +11,18 @@ pub fn lookup<E: Kind>(book: &[Entry<E>], question: Question) -> Answer
     ensures value { result ≡ looked E.says E.UNSETTLED book.now question }
     ensures rule { Rule E.says E.UNSETTLED book.now question result }
 {
-    let mut rest = book;
+    let Some((mut last, mut rest)) = book.split_last() else {
+        return E::UNSETTLED;
+    };
     loop {
-        let Some((last, before)) = rest.split_last() else {
-            break E::UNSETTLED;
-        };
         if let Some(answer) = last.change.say(question) {
             break answer;
         }
+        // what is left is asked here and not at the top: so the loop needs one counter, also in machine code
+        let Some((next, before)) = rest.split_last() else {
+            break E::UNSETTLED;
+        };
+        last = next;
         rest = before;
     }
 }

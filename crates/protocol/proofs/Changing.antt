@@ -7,8 +7,8 @@ use native.Mathlib.Decide.{ℕ_discrete}
 use native.Mathlib.Omega.{arith}
 use Rattle.protocol.specs.Updates.{upd, upd_same, upd_other, upd_all}
 use Rattle.protocol.specs.Model.{Entry, Replica, View, handed, Site, appending, growing, IsPrimary, after_change}
-use Rattle.protocol.specs.Guarantee.{handed_with}
-use Rattle.protocol.proofs.Invariant.{FloorOk, Invariant, Source, StampOk, ViewOk}
+use Rattle.protocol.specs.Guarantee.{handed_with, openings_of}
+use Rattle.protocol.proofs.Invariant.{FloorOk, Invariant, OpenedOnce, Source, StampOk, ViewOk}
 use Rattle.protocol.proofs.Growth.{Grows, grows_view}
 use Rattle.protocol.proofs.Stable.{replica_stable, view_stable}
 use Rattle.protocol.proofs.Frame.{messages_still, one_more_event, step_view, views_of}
@@ -102,6 +102,7 @@ module _ {E : Type 0} (n : ℕ) (s : Site E) (inv : Invariant n s) where
     new_stamp = record {
       once = λ _ _ _. given ∙ ap (λ (y : Entry E). y.what ∷ []) (sym (upd_same V.log V.log_length e));
       unused = nothing;
+      beneath = λ o a. absurd (omega (arith, (inv.view_ok v).fits o));
     }
       where
         given : handed_with v V.log_length (handed v l x ∷ s.history) ≡ x ∷ []
@@ -117,6 +118,7 @@ module _ {E : Type 0} (n : ℕ) (s : Site E) (inv : Invariant n s) where
     old_stamp k other = record {
       once = λ o a b. as_before ∙ (inv.stamp_ok v k).once o a (omega arith) ∙ ap (λ (y : Entry E). y.what ∷ []) (sym (upd_other V.log V.log_length e k other));
       unused = nothing;
+      beneath = λ o a. as_before ∙ (inv.stamp_ok v k).beneath o a;
     }
       where
         as_before : handed_with v k (handed v l x ∷ s.history) ≡ handed_with v k s.history
@@ -138,6 +140,11 @@ module _ {E : Type 0} (n : ℕ) (s : Site E) (inv : Invariant n s) where
 
         there : (w : ℕ) → w ≢ v → (k : ℕ) → StampOk (s.views w) k (handed_with w k site'.history)
         there w other k = subst (λ ys. StampOk (s.views w) k ys) (sym (handed_elsewhere v l w k x s.history (λ q _. other (sym q)))) (inv.stamp_ok w k)
+
+    openings_now : (w : ℕ) → OpenedOnce (site'.views w) (openings_of w site'.history)
+    openings_now = upd_all (λ w W. OpenedOnce W (openings_of w s.history)) s.views v view'
+        (record { one = (inv.opened_ok v).one; none_yet = (inv.opened_ok v).none_yet })
+        (λ w _. inv.opened_ok w)
 
     pub change_ok : Invariant n site'
     change_ok =
@@ -164,5 +171,6 @@ module _ {E : Type 0} (n : ℕ) (s : Site E) (inv : Invariant n s) where
         })
         view_now
         stamps_now
+        openings_now
         (messages_still n s inv site' site_grows)
         (one_more_event n s inv site' site_grows (views_of n s inv i replica' v view' s.pool site'.history site_grows view_now) (handed v l x) tt)

@@ -7,9 +7,9 @@ use native.Mathlib.Omega.{arith}
 use Rattle.protocol.specs.Updates.{upd, upd_same, upd_all}
 use Rattle.protocol.specs.Views.{caller_of}
 use Rattle.protocol.specs.Model.{manager, normal, Replica, View, formation, Site, Idle, Latest, Rule, resting, forming, after_form}
-use Rattle.protocol.specs.Guarantee.{handed_with}
+use Rattle.protocol.specs.Guarantee.{handed_with, openings_of}
 use Rattle.protocol.proofs.Cases.{waiting_not_active, waiting_not_manager}
-use Rattle.protocol.proofs.Invariant.{AnswerOk, Invariant, StampOk, ViewOk}
+use Rattle.protocol.proofs.Invariant.{AnswerOk, Invariant, OpenedOnce, StampOk, ViewOk}
 use Rattle.protocol.proofs.Growth.{Grows, grows_view}
 use Rattle.protocol.proofs.Stable.{begins_log_stable, floor_stable, knows_primary_stable, ready_stable, view_stable}
 use Rattle.protocol.proofs.Frame.{events_still, one_more_message, step_view, views_of}
@@ -73,8 +73,13 @@ module _ {E : Type 0} (n : ℕ) (s : Site E) (inv : Invariant n s) where
 
     stamps_now : (w k : ℕ) → StampOk (site'.views w) k (handed_with w k s.history)
     stamps_now = upd_all (λ w V. (k : ℕ) → StampOk V k (handed_with w k s.history)) s.views v view'
-        (λ k. record { once = (inv.stamp_ok v k).once; unused = (inv.stamp_ok v k).unused })
+        (λ k. record { once = (inv.stamp_ok v k).once; unused = (inv.stamp_ok v k).unused; beneath = (inv.stamp_ok v k).beneath })
         (λ w _. inv.stamp_ok w)
+
+    openings_now : (w : ℕ) → OpenedOnce (site'.views w) (openings_of w s.history)
+    openings_now = upd_all (λ w V. OpenedOnce V (openings_of w s.history)) s.views v view'
+        (record { one = (inv.opened_ok v).one; none_yet = (inv.opened_ok v).none_yet })
+        (λ w _. inv.opened_ok w)
 
     pub form_ok : Invariant n site'
     form_ok =
@@ -96,6 +101,7 @@ module _ {E : Type 0} (n : ℕ) (s : Site E) (inv : Invariant n s) where
         })
         view_now
         stamps_now
+        openings_now
         (one_more_message n s inv site' site_grows (formation i c v) (record {
           named = ap (λ y. y.formed_for) (upd_same s.views v view');
           past = omega (arith, past, (site_grows.replicas_grow c).promised_up);

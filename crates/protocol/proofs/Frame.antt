@@ -6,8 +6,8 @@ use Prim.Native.Nat.{ℕ}
 use Rattle.protocol.specs.Updates.{upd, upd_other, upd_all}
 use Rattle.protocol.specs.Members.{Member, member_push}
 use Rattle.protocol.specs.Model.{Replica, View, Message, Event, Site, with_pool, note}
-use Rattle.protocol.specs.Guarantee.{handed_with}
-use Rattle.protocol.proofs.Invariant.{EventOk, Invariant, MessageOk, ReplicaOk, StampOk, ViewOk}
+use Rattle.protocol.specs.Guarantee.{handed_with, openings_of}
+use Rattle.protocol.proofs.Invariant.{EventOk, Invariant, MessageOk, OpenedOnce, ReplicaOk, StampOk, ViewOk}
 use Rattle.protocol.proofs.Growth.{Grows, ReplicaGrows, grows_nothing, grows_replica, site}
 use Rattle.protocol.proofs.Stable.{event_stable, message_stable, replica_stable, view_stable}
 
@@ -42,13 +42,15 @@ module _ {E : Type 0} (n : ℕ) (s : Site E) (inv : Invariant n s) where
         replica_ok = λ c. replica_stable s s' grows c (s.replicas c) refl (inv.replica_ok c);
         view_ok = views;
         stamp_ok = inv.stamp_ok;
+        opened_ok = inv.opened_ok;
         message_ok = ok;
         event_ok = events_still s' grows views;
       }
 
   -- one event more
-  pub step_event : (x : Event E) → EventOk n (note s x) x → ((w k : ℕ) → StampOk (s.views w) k (handed_with w k (x ∷ s.history))) → Invariant n (note s x)
-  step_event x ok stamps =
+  pub step_event : (x : Event E) → EventOk n (note s x) x → ((w k : ℕ) → StampOk (s.views w) k (handed_with w k (x ∷ s.history)))
+      → ((w : ℕ) → OpenedOnce (s.views w) (openings_of w (x ∷ s.history))) → Invariant n (note s x)
+  step_event x ok stamps openings =
       let s' = note s x in
       let grows = grows_nothing s s.pool (x ∷ s.history) in
       let views : (w : ℕ) → ViewOk n s' w (s.views w) = λ w. view_stable s s' grows w (s.views w) (inv.view_ok w) in
@@ -56,6 +58,7 @@ module _ {E : Type 0} (n : ℕ) (s : Site E) (inv : Invariant n s) where
         replica_ok = λ c. replica_stable s s' grows c (s.replicas c) refl (inv.replica_ok c);
         view_ok = views;
         stamp_ok = stamps;
+        opened_ok = openings;
         message_ok = messages_still s' grows;
         event_ok = one_more_event s' grows views x ok;
       }
@@ -74,6 +77,7 @@ module _ {E : Type 0} (n : ℕ) (s : Site E) (inv : Invariant n s) where
               (λ c k. replica_stable s t' grows c (s.replicas c) (ap (λ x. x.status) (upd_other s.replicas i r c k)) (inv.replica_ok c));
           view_ok = views;
           stamp_ok = inv.stamp_ok;
+          opened_ok = inv.opened_ok;
           message_ok = ok;
           event_ok = events_still t' grows views;
         }
@@ -88,12 +92,14 @@ module _ {E : Type 0} (n : ℕ) (s : Site E) (inv : Invariant n s) where
 
     pub step_view : Grows s u' → ReplicaOk u' i r → ViewOk n u' v V
         → ((w k : ℕ) → StampOk (upd s.views v V w) k (handed_with w k h))
+        → ((w : ℕ) → OpenedOnce (upd s.views v V w) (openings_of w h))
         → ((m : Message E) → Member m ms → MessageOk n u' m) → ((x : Event E) → Member x h → EventOk n u' x) → Invariant n u'
-    step_view grows here view stamps messages events = record {
+    step_view grows here view stamps openings messages events = record {
       replica_ok = upd_all (λ c x. ReplicaOk u' c x) s.replicas i r here
           (λ c d. replica_stable s u' grows c (s.replicas c) (ap (λ x. x.status) (upd_other s.replicas i r c d)) (inv.replica_ok c));
       view_ok = views_of grows view;
       stamp_ok = stamps;
+      opened_ok = openings;
       message_ok = messages;
       event_ok = events;
     }

@@ -2,6 +2,7 @@
 use mathlib.Core.Path.{◌≡◌}
 use mathlib.Core.Bool.{Bool, true}
 use mathlib.Core.List.{List, [], ◌∷◌}
+use lib.ListN.{length}
 use mathlib.Core.Logic.{◌⊎◌, ◌≢◌}
 use Prim.Native.Nat.{ℕ, suc, ◌≤◌, ◌<◌}
 use Rattle.protocol.specs.Members.{Member}
@@ -33,7 +34,7 @@ use Rattle.protocol.specs.Model.{
   Opened,
   Idle,
 }
-use Rattle.protocol.specs.Guarantee.{handed_with}
+use Rattle.protocol.specs.Guarantee.{handed_with, openings_of}
 
 module _ {E : Type 0} where
   -- the book (l, f) has the first k entries of the log of w, and past the opening book of w only entries of w and later views
@@ -128,6 +129,12 @@ module _ {E : Type 0} where
   pub record StampOk (V : View E) (k : ℕ) (given : List E) : Type 0 where
     pub once : Opened V → V.opening_length ≤ k → k < V.log_length → given ≡ (V.log k).what ∷ []
     pub unused : (V.opened_by ≡ 0) ⊎ (V.log_length ≤ k) → given ≡ []
+    pub beneath : Opened V → k < V.opening_length → given ≡ []
+
+  -- `openings` are those that the history has of the view V: one if it is opened, else none
+  pub record OpenedOnce (V : View E) (openings : List (Event E)) : Type 0 where
+    pub one : Opened V → length openings ≡ 1
+    pub none_yet : V.opened_by ≡ 0 → length openings ≡ 0
 
   -- a form message of v to c: while c waits for v, its book is safe to open v with
   pub record FormationOk (n : ℕ) (s : Site E) (c v : ℕ) : Type 0 where
@@ -188,5 +195,6 @@ module _ {E : Type 0} where
     pub replica_ok : (c : ℕ) → ReplicaOk s c (s.replicas c)
     pub view_ok : (w : ℕ) → ViewOk n s w (s.views w)
     pub stamp_ok : (w k : ℕ) → StampOk (s.views w) k (handed_with w k s.history)
+    pub opened_ok : (w : ℕ) → OpenedOnce (s.views w) (openings_of w s.history)
     pub message_ok : (m : Message E) → Member m s.pool → MessageOk n s m
     pub event_ok : (x : Event E) → Member x s.history → EventOk n s x

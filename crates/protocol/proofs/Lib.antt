@@ -12,6 +12,7 @@ pub mod Promising
 pub mod Choosing
 pub mod Forming
 pub mod Entering
+pub mod Openings
 pub mod Opening
 pub mod Joining
 pub mod Appending
@@ -21,4 +22,5 @@ pub mod Runs
 pub mod Survival
 pub mod OneList
 pub mod HandedOnce
+pub mod AtMostOnce
 pub mod Theorem

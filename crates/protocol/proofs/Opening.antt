@@ -8,14 +8,15 @@ use Rattle.protocol.specs.Updates.{upd, upd_same, upd_all}
 use Rattle.protocol.specs.Members.{Member}
 use Rattle.protocol.specs.Views.{caller_of}
 use Rattle.protocol.specs.Model.{waiting, Entry, Replica, View, formation, opening, Site, Idle, entering, opening_by, after_formation}
-use Rattle.protocol.specs.Guarantee.{handed_with}
+use Rattle.protocol.specs.Guarantee.{handed_with, openings_of}
 use Rattle.std.proofs.lemmas.Bool.{cases_lt}
 use Rattle.protocol.proofs.Cases.{active_not_manager}
-use Rattle.protocol.proofs.Invariant.{FloorOk, FormationOk, Invariant, Source, StampOk, ViewOk}
+use Rattle.protocol.proofs.Invariant.{FloorOk, FormationOk, Invariant, OpenedOnce, Source, StampOk, ViewOk}
 use Rattle.protocol.proofs.Growth.{Grows, grows_view}
 use Rattle.protocol.proofs.Stable.{floor_stable, safe_stable, source_stable}
 use Rattle.protocol.proofs.Frame.{messages_still, one_more_event, step_view, views_of}
 use Rattle.protocol.proofs.Entering.{entering_grows, no_floor}
+use Rattle.protocol.proofs.Openings.{opening_elsewhere, opening_here}
 
 module _ {E : Type 0} (n : ℕ) (s : Site E) (inv : Invariant n s) where
   module _ (i c v : ℕ) (mem : Member (formation i c v) s.pool)
@@ -94,8 +95,22 @@ module _ {E : Type 0} (n : ℕ) (s : Site E) (inv : Invariant n s) where
 
     stamps_now : (w k : ℕ) → StampOk (site'.views w) k (handed_with w k s.history)
     stamps_now = upd_all (λ w V. (k : ℕ) → StampOk V k (handed_with w k s.history)) s.views v view'
-        (λ k. record { once = λ _ a b. absurd (omega arith); unused = λ _. (inv.stamp_ok v k).unused (inl not_open) })
+        (λ k. record {
+          once = λ _ a b. absurd (omega arith);
+          unused = λ _. (inv.stamp_ok v k).unused (inl not_open);
+          beneath = λ _ _. (inv.stamp_ok v k).unused (inl not_open);
+        })
         (λ w _. inv.stamp_ok w)
+
+    openings_now : (w : ℕ) → OpenedOnce (site'.views w) (openings_of w site'.history)
+    openings_now = upd_all (λ w V. OpenedOnce V (openings_of w site'.history)) s.views v view'
+        (record {
+          one = λ _. omega (arith, opening_here v l f s.history, (inv.opened_ok v).none_yet not_open);
+          none_yet = λ e. absurd (omega arith);
+        })
+        (λ w other.
+        let as_before = opening_elsewhere v l f w s.history (λ e. other (sym e)) in
+        record { one = λ o. as_before ∙ (inv.opened_ok w).one o; none_yet = λ e. as_before ∙ (inv.opened_ok w).none_yet e })
 
     pub open_ok : Invariant n site'
     open_ok =
@@ -121,6 +136,7 @@ module _ {E : Type 0} (n : ℕ) (s : Site E) (inv : Invariant n s) where
         })
         view_now
         stamps_now
+        openings_now
         (messages_still n s inv site' site_grows)
         (one_more_event n s inv site' site_grows (views_of n s inv c replica' v view' s.pool site'.history site_grows view_now) (opening v l f)
         (record { opens = omega (arith, ap (λ y. y.opened_by) view_is); length_is = ap (λ y. y.opening_length) view_is; book_is = ap (λ y. y.opening_book) view_is }))

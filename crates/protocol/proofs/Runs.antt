@@ -1,6 +1,7 @@
 -- Every site that a run reaches satisfies the invariant.
 use mathlib.Core.Path.{◌≡◌, refl, sym, ap, subst}
 use mathlib.Core.List.{[], ◌∷◌}
+use lib.ListN.{length}
 use mathlib.Core.Logic.{inl, inr}
 use Prim.Native.Nat.{ℕ, ◌≤◌, ◌<◌}
 use native.Mathlib.Decide.{ℕ_discrete, dec_lt}
@@ -43,16 +44,17 @@ use Rattle.protocol.specs.Model.{
   start,
   then,
 }
-use Rattle.protocol.specs.Guarantee.{handed_with}
+use Rattle.protocol.specs.Guarantee.{handed_with, openings_of}
 use Rattle.std.proofs.lemmas.Bool.{false≢true}
 use Rattle.protocol.proofs.Cases.{active_not_manager, down_not_active, down_not_manager, waiting_not_active, waiting_not_manager}
-use Rattle.protocol.proofs.Invariant.{EventOk, FloorOk, Invariant, OpeningOk, ReplicaOk, StampOk, ViewOk}
+use Rattle.protocol.proofs.Invariant.{EventOk, FloorOk, Invariant, OpenedOnce, OpeningOk, ReplicaOk, StampOk, ViewOk}
 use Rattle.protocol.proofs.Sending.{invite_ok, lose_ok, pass_ok}
 use Rattle.protocol.proofs.Settling.{confirmed_ok, lookup_ok, lost_ok}
 use Rattle.protocol.proofs.Counting.{acknowledgement_ok, answer_ok}
 use Rattle.protocol.proofs.Forgetting.{forgetting_ok}
 use Rattle.protocol.proofs.Promising.{call_ok, invitation_ok}
 use Rattle.protocol.proofs.Forming.{form_ok}
+use Rattle.protocol.proofs.Openings.{opening_elsewhere}
 use Rattle.protocol.proofs.Opening.{open_ok}
 use Rattle.protocol.proofs.Joining.{join_ok}
 use Rattle.protocol.proofs.Appending.{entry_ok}
@@ -144,8 +146,18 @@ module _ {E : Type 0} where
     stamp_at_start w k = go (ℕ_discrete w 0)
       where
         go : (d : Dec (w ≡ 0)) → StampOk (pick d (first_view blank) (unopened_view blank)) k []
-        go (yes _) = record { once = λ _ a b. absurd (omega arith); unused = λ _. refl }
-        go (no _) = record { once = λ _ a b. absurd (omega arith); unused = λ _. refl }
+        go (yes _) = record { once = λ _ a b. absurd (omega arith); unused = λ _. refl; beneath = λ _ _. refl }
+        go (no _) = record { once = λ _ a b. absurd (omega arith); unused = λ _. refl; beneath = λ _ _. refl }
+
+    opened_at_start : (w : ℕ) → OpenedOnce (made_view blank w) (openings_of w (made n blank).history)
+    opened_at_start w = go (ℕ_discrete w 0)
+      where
+        go : (d : Dec (w ≡ 0)) → OpenedOnce (pick d (first_view blank) (unopened_view blank)) (openings_of w (made n blank).history)
+        go (yes e) = record {
+          one = λ _. ap (λ v. length (openings_of v (made n blank).history)) e;
+          none_yet = λ h. absurd (omega arith);
+        }
+        go (no other) = record { one = λ h. absurd (omega arith); none_yet = λ _. opening_elsewhere 0 0 blank w [] (λ e. other (sym e)) }
 
     event_at_start : (x : Event E) → Member x (opening 0 0 blank ∷ []) → EventOk n (made n blank) x
     event_at_start x (inl e) = subst (λ y. EventOk n (made n blank) y) (sym e) ok
@@ -159,6 +171,7 @@ module _ {E : Type 0} where
       replica_ok = replica_at_start;
       view_ok = view_at_start;
       stamp_ok = stamp_at_start;
+      opened_ok = opened_at_start;
       message_ok = λ m h. absurd h;
       event_ok = event_at_start;
     }

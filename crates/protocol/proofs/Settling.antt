@@ -17,7 +17,7 @@ module _ {E : Type 0} (n : ℕ) (s : Site E) (inv : Invariant n s) where
       let r = active_book n s inv i a in
       step_event n s inv (looked_up (s.replicas i).current (s.replicas i).length (s.replicas i).book)
       (record { opens = r.opens; above = r.above; within = r.within; same = r.begins_log })
-      inv.stamp_ok
+      inv.stamp_ok inv.opened_ok
 
   pub confirmed_ok : (i k : ℕ) → IsPrimary s i → k < (s.replicas i).length → Majority n (λ d. ltb (suc k) ((s.replicas i).acknowledged d))
       → Invariant n (note s (confirmed (s.replicas i).current (suc k) (s.replicas i).book))
@@ -32,7 +32,7 @@ module _ {E : Type 0} (n : ℕ) (s : Site E) (inv : Invariant n s) where
         most = most;
         have = λ c a b. omega (arith, ltb-true (suc k) ((s.replicas i).acknowledged c) b, (inv.replica_ok i).acknowledged_ok p.is_active p.is_primary c);
       })
-      inv.stamp_ok
+      inv.stamp_ok inv.opened_ok
 
   pub lost_ok : (i z k : ℕ) → IsPrimary s i → z < (s.replicas i).current → (k < (s.replicas i).length → ((s.replicas i).book k).view ≢ z)
       → Majority n (λ d. ltb 0 ((s.replicas i).acknowledged d)) → Invariant n (note s (lost (s.replicas i).current z k))
@@ -49,4 +49,4 @@ module _ {E : Type 0} (n : ℕ) (s : Site E) (inv : Invariant n s) where
         most = most;
         have = λ c a b. omega (arith, ltb-true 0 ((s.replicas i).acknowledged c) b, (inv.replica_ok i).acknowledged_ok p.is_active p.is_primary c);
       })
-      inv.stamp_ok
+      inv.stamp_ok inv.opened_ok

@@ -1,5 +1,5 @@
--- What is guaranteed of the history of every run: a confirmed change was handed out once, and survives.
-use Rattle.std.specs.Prelude.{◌≡◌, cond, ◌&&◌, List, [], ◌∷◌, ◌++◌, ◌≢◌, ℕ, ◌≤◌, ◌<◌, eqb}
+-- What is guaranteed of the history of every run: a confirmed change survives; no stamp is handed out twice, no view opened twice.
+use Rattle.std.specs.Prelude.{◌≡◌, cond, ◌&&◌, List, [], ◌∷◌, ◌++◌, length, ◌≢◌, ℕ, ◌≤◌, ◌<◌, eqb}
 use Rattle.protocol.specs.Members.{Member}
 use Rattle.protocol.specs.Model.{Entry, Event, handed, opening, looked_up, confirmed, lost, Site, Run}
 
@@ -16,6 +16,19 @@ module _ {E : Type 0} where
   abbrev pub handed_with : ℕ → ℕ → List (Event E) → List E
   handed_with w k [] = []
   handed_with w k (x ∷ xs) = handed_by w k x ++ handed_with w k xs
+
+  -- an event as an opening of the view v, or none
+  abbrev pub openings_by : ℕ → Event E → List (Event E)
+  openings_by v (handed w k x) = []
+  openings_by v (opening w l f) = cond (eqb w v) (opening w l f ∷ []) []
+  openings_by v (looked_up w l f) = []
+  openings_by v (confirmed w l f) = []
+  openings_by v (lost w z k) = []
+
+  -- all openings of that view, the latest first
+  abbrev pub openings_of : ℕ → List (Event E) → List (Event E)
+  openings_of v [] = []
+  openings_of v (x ∷ xs) = openings_by v x ++ openings_of v xs
 
   -- the book (l, g) begins with the first k entries of f
   abbrev pub Keeps : ℕ → (ℕ → Entry E) → ℕ → (ℕ → Entry E) → Type 0
@@ -40,6 +53,10 @@ module _ {E : Type 0} where
         → (k : ℕ) → k < l → handed_with (f k).view k s.history ≡ (f k).what ∷ []
     -- all that was confirmed is in one list, and what was lost is not
     pub one_list : OneList s.history
+    -- no stamp is handed out twice, confirmed or not
+    pub handed_at_most_once : (w k : ℕ) → length (handed_with w k s.history) ≤ 1
+    -- and no view is opened twice
+    pub opened_at_most_once : (v : ℕ) → length (openings_of v s.history) ≤ 1
 
 abbrev pub Statement : Type 0 → Type 0
 Statement E = (n : ℕ) (blank : ℕ → Entry E) (s : Site E) → 0 < n → Run n blank s → Stands s

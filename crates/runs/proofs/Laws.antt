@@ -1,4 +1,4 @@
--- From the protocol's theorem to the three laws in the words of the guarantee. Assumes nothing.
+-- From the protocol's theorem to the four laws in the words of the guarantee. Assumes nothing.
 use Rattle.std.proofs.Common.{◌≡◌, ℕ, suc, ◌-◌, ◌<◌, ◌≤◌, cond, ◌&&◌, eqb, List, [], ◌∷◌, ◌++◌, map, length, take, Some, Option, sym, refl, ap, ◌∙◌, subst, inl, inr, arith}
 use Rattle.std.proofs.lemmas.Bool.Decides.{nat_tests}
 use Rattle.std.specs.List.{range_with_len}
@@ -19,8 +19,9 @@ use Rattle.protocol.specs.Model.{Site}
 use Rattle.runs.specs.Guarantee.{HandedOnce, Holds, Laws, entry_of}
 use Rattle.runs.specs.History.{Event, confirmed, handed, handed_by, handed_with, looked_up, lost, opened, same_stamp}
 use Rattle.runs.proofs.Bond.{BookR, EventR, HistoryR, Small, code, the_entry}
-use Rattle.runs.proofs.Codes.{code_same, code_of_view, earlier_code, same_view_code, coded_view, view_of_code}
+use Rattle.runs.proofs.Codes.{code_same, code_of_view, earlier_code, same_view_code, coded_view}
 use Rattle.runs.proofs.Items.{at_item, front_same, item_counted, item_below, item_some}
+use Rattle.runs.proofs.Once.{once}
 
 module _ {E : Type 0} where
   -- Entries
@@ -222,22 +223,30 @@ module _ {E : Type 0} where
       the_list : List (Entry E)
       the_list = map (λ j. decoded (stands.one_list.book j)) (range_with_len 0 stands.one_list.length)
 
-      list_has : (t : Stamp) (w : View) (before : List (Entry E)) → Member (confirmed t w before) h
-          → (x : E) × (HandedOnce h t x) × (at_place the_list t.place.number ≡ Some (entry_of t x))
+      list_item : (j : ℕ) (e : Entry E) → item the_list j ≡ Some e → decoded (stands.one_list.book j) ≡ e
+      unfolding the_list
+      list_item j e there =
+          let one = stands.one_list in
+          let below : j < one.length = omega (arith, item_below the_list j e there, length-map-range_with_len (λ i. decoded (one.book i)) 0 one.length) in
+          same_Some (decoded (one.book j)) e (sym (item_counted (λ i. decoded (one.book i)) one.length j below) ∙ there)
+
+      list_is : BookR the_list stands.one_list.length stands.one_list.book
       unfolding the_list decoded
+      list_is =
+          let one = stands.one_list in
+          record {
+            long = sym (length-map-range_with_len (λ j. decoded (one.book j)) 0 one.length);
+            same = λ j e there.
+                sym (ap (λ v. record { view = v; what = (one.book j).what }) (code_of_view (one.book j).view)) ∙ ap the_entry (list_item j e there);
+            small = λ j e there.
+                let less : Small (coded_view (one.book j).view) = omega arith in
+                subst (λ z. Small z.view) (list_item j e there) less;
+          }
+
+      list_has : (t : Stamp) (w : View) (before : List (Entry E)) → Member (confirmed t w before) h → Holds h t before the_list
       list_has t w before mem =
           let c = at_confirmed t w before mem in
-          let j : ℕ = c.k - 1 in
-          let keeps = stands.one_list.has (code w) c.k c.f c.noted in
-          let below : j < c.k = omega (arith, c.is.least) in
-          let view : coded_view (c.f j).view ≡ t.view = ap coded_view c.is.last ∙ view_of_code t.view c.is.small in (
-            (c.f j).what,
-            handed_once t w before c,
-            ap (at_place the_list) c.is.place ∙ at_item the_list c.k c.is.least
-                ∙ item_counted (λ i. decoded (stands.one_list.book i)) stands.one_list.length j (omega (arith, keeps.0))
-                ∙ ap (λ e. Some (decoded e)) (keeps.1 j below)
-                ∙ ap (λ v. Some (record { view = v; change = (c.f j).what })) view,
-          )
+          holds t w before c the_list stands.one_list.length stands.one_list.book list_is (stands.one_list.has (code w) c.k c.f c.noted)
 
       list_lacks : (t : Stamp) → Member (lost t) h → (e : Entry E) → at_place the_list t.place.number ≡ Some e → e.view ≡ t.view → ⊥
       unfolding the_list decoded
@@ -265,4 +274,5 @@ module _ {E : Type 0} where
                 let both = at_looked_up v book q a mem_book in
                 let b = both.0 in
                 (both.1, holds t w before c book b.l b.g b.is (stands.in_lookups (code w) c.k c.f (code v) b.l b.g c.noted b.noted (earlier_code w v c.small b.small lt)));
+            once = once says unsettled h m stands histories;
           }

@@ -23,6 +23,7 @@ pub mod Lookups
 pub mod Losses
 pub mod Majorities
 pub mod Members
+pub mod Once
 pub mod Parts
 pub mod Power
 pub mod Promises

@@ -1,5 +1,5 @@
 -- The guarantee on confirmed changes, over the history of any list of steps. Assumes nothing.
-use Rattle.std.specs.Prelude.{◌≡◌, ℕ, ◌-◌, true, List, [], ◌∷◌, ◌++◌, length, take, Some, Ok, Option, ◌≢◌}
+use Rattle.std.specs.Prelude.{◌≡◌, ℕ, ◌-◌, ◌≤◌, true, List, [], ◌∷◌, ◌++◌, length, take, Some, Ok, Option, ◌≢◌}
 use Rattle.numbers.specs.declared.views.Stamp.{Stamp}
 use Rattle.numbers.specs.declared.views.View.{View}
 use Rattle.numbers.specs.Views.{earlier}
@@ -13,7 +13,7 @@ use Rattle.site.specs.Making.{make_step}
 use Rattle.site.specs.States.{State}
 use Rattle.runs.specs.declared.steps.Step.{Step}
 use Rattle.runs.specs.Runs.{ran}
-use Rattle.runs.specs.History.{Event, confirmed, handed_with, history, looked_up, lost, opened}
+use Rattle.runs.specs.History.{Event, confirmed, handed_with, history, looked_up, lost, opened, openings_of}
 
 module _ {E : Type 0} where
   -- the entry of a stamp and a change: its view with the change
@@ -37,11 +37,11 @@ module _ {E : Type 0} where
       → (v : View) (book : List (Entry E)) → Member (opened v book) h → earlier w v ≡ true
       → Holds h t before book
 
-  -- one list of entries in which every confirmed slip finds its entry at its place, and no slip reported lost finds an entry of its view at its place
+  -- one list of entries in which every confirmed slip finds its entry at its place, after all that preceded it, and no slip reported lost finds an entry of its view at its place
   pub record OneList (h : List (Event E)) : Type 0 where
     pub entries : List (Entry E)
     pub has : (t : Stamp) (w : View) (before : List (Entry E)) → Member (confirmed t w before) h
-        → (x : E) × (HandedOnce h t x) × (at_place entries t.place.number ≡ Some (entry_of t x))
+        → Holds h t before entries
     pub lacks : (t : Stamp) → Member (lost t) h
         → (e : Entry E) → at_place entries t.place.number ≡ Some e → e.view ≢ t.view
 
@@ -51,11 +51,17 @@ module _ {E : Type 0} where
       → (v : View) (book : List (Entry E)) (q : Question) (a : Answer) → Member (looked_up v book q a) h → earlier w v ≡ true
       → (a ≡ looked says unsettled book q) × Holds h t before book
 
-  -- the three laws, of one history
+  -- no stamp is handed out twice, and no view is opened twice
+  pub record Once (h : List (Event E)) : Type 0 where
+    pub stamps : (t : Stamp) → length (handed_with t h) ≤ 1
+    pub views : (v : View) → length (openings_of v h) ≤ 1
+
+  -- the four laws, of one history
   pub record Laws (says : E → Question → Option Answer) (unsettled : Answer) (h : List (Event E)) : Type 0 where
     pub survival : Survival h
     pub one_list : OneList h
     pub lookups : Lookups says unsettled h
+    pub once : Once h
 
   -- the guarantee: the laws hold of the history of every list of steps from a made site
   abbrev pub Guarantee : (E → Question → Option Answer) → Answer → State E → List (Step E) → Type 0

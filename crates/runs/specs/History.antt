@@ -87,6 +87,15 @@ module _ {E : Type 0} where
   handed_with t [] = []
   handed_with t (x ∷ xs) = handed_by t x ++ handed_with t xs
 
+  -- the books with which a view was opened
+  abbrev pub openings_by : View → Event E → List (List (Entry E))
+  openings_by v (opened w b) = cond (same_view w v) (b ∷ []) []
+  openings_by v e = []
+
+  abbrev pub openings_of : View → List (Event E) → List (List (Entry E))
+  openings_of v [] = []
+  openings_of v (x ∷ xs) = openings_by v x ++ openings_of v xs
+
 module _ {E : Type 0} (says : E → Question → Option Answer) (unsettled : Answer) where
   -- what one step adds to a history, whose latest event is the first
   abbrev pub told : List (Event E) → State E → Step E → List (Event E)

@@ -1,4 +1,4 @@
+pub mod ExampleRuns
 pub mod Guarantee
 pub mod History
 pub mod Runs
-pub mod TwoRuns

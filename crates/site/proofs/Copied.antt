@@ -1,11 +1,36 @@
--- The beginning of one part of the books copied over that of another. Assumes nothing.
-use Rattle.std.proofs.Common.{◌≡◌, ℕ, zero, suc, ◌+◌, ◌-◌, ◌*◌, ◌≤◌, min, List, [], ◌∷◌, ◌++◌, length, take, drop, sym, ap, ◌∙◌, arith}
+-- The beginning of one part of the books copied over that of another, which lies apart from it. Assumes nothing.
+use Rattle.std.proofs.Common.{◌≡◌, ℕ, zero, suc, ◌+◌, ◌-◌, ◌*◌, ◌<◌, ◌≤◌, ◌⊎◌, min, List, [], ◌∷◌, ◌++◌, length, take, drop, sym, ap, ◌∙◌, inl, inr, ⊎_elim, mul-le-mul_right, arith}
 use native.Mathlib.Nat.{min-zero, suc-min-suc, zero-min}
 use lib.Seq.{paste}
+use Rattle.std.proofs.lemmas.Bool.{cases_order, eqb-false, not-true}
 use Rattle.std.proofs.lemmas.List.{append_assoc, drop-drop, drop-take, length-drop, length-take, take-append-drop}
+use Rattle.numbers.specs.declared.views.ControllerNumber.{ControllerNumber}
 use Rattle.entries.specs.declared.book.Entry.{Entry}
+use Rattle.forming.specs.declared.members.Member.{Member}
 use Rattle.controller.specs.Joins.{copied}
-use Rattle.site.specs.States.{part, with_part}
+use Rattle.site.specs.declared.records.Site.{Site}
+use Rattle.site.specs.States.{IsPair, part, with_part}
+
+-- a part begins no earlier than the one before it ends
+parts_apart : (c d s : ℕ) → c < d → c * s + s ≤ d * s
+parts_apart c d s h =
+    let more : (c + 1) * s ≤ d * s = mul-le-mul_right s (omega arith) in
+    let split : (c + 1) * s ≡ c * s + s = omega arith in
+    omega arith
+
+-- the beginnings of two controllers' parts lie apart
+pub parts_lie_apart : {x : Site} {books pool a b n : ℕ} {i p : ControllerNumber} {m : Member × Member} → IsPair x books pool i p m
+    → a ≡ m.0.number.number * x.cap → b ≡ m.1.number.number * x.cap → n ≤ x.cap → (b + n ≤ a) ⊎ (a + n ≤ b)
+parts_lie_apart {x = x} {a = a} {b = b} {i = i} {p = p} pair start start_2 few =
+    let to : a ≡ i.number * x.cap = start ∙ ap (λ z. z.number * x.cap) pair.first.number in
+    let from : b ≡ p.number * x.cap = start_2 ∙ ap (λ z. z.number * x.cap) pair.second.number in
+    ⊎_elim
+    (λ e. absurd (eqb-false i.number p.number (not-true _ pair.two) e))
+    (λ order. ⊎_elim
+    (λ h. inr (omega (arith, to, from, few, parts_apart i.number p.number x.cap h)))
+    (λ h. inl (omega (arith, to, from, few, parts_apart p.number i.number x.cap h)))
+    order)
+    (cases_order i.number p.number)
 
 module _ {A : Type 0} where
   -- the first n of the first m

@@ -144,19 +144,18 @@ module _ {E : Type 0} {s : State E} {i p : ControllerNumber} {x' : Site} {cs' : 
     -- the entries in use of the other's part, which begins at b, are copied to where the part of i begins
     pub join_sent : {m : Member × Member} {a b n : ℕ} {books' : List (Entry E)} → IsPair s.site (length s.books) (length s.pool) i p m
         → a ≡ m.0.number.number * s.site.cap → b ≡ m.1.number.number * s.site.cap → b + s.site.cap ≤ m.1.n * s.site.cap
-        → n ≡ min (row s p).length s.site.cap → books' ≡ paste s.books a (drop b s.books) (b + n - b)
+        → n ≡ min (row s p).length s.site.cap → books' ≡ paste s.books a (drop b s.books) n
         → join_step s i p ≡ done (Ok tt) (sent (state x' cs' books' s.pool) y)
     join_sent {a = a} {b = b} {n = n} pair to from within count copy =
         let cap = s.site.cap in
-        let long : b + n - b ≡ n = omega arith in
         let to_i : a ≡ i.number * cap = to ∙ ap (λ z. z.number * cap) pair.first.number in
         let from_p : b ≡ p.number * cap = from ∙ ap (λ z. z.number * cap) pair.second.number in
         let size = ap (λ z. z * cap) pair.second.size in
         let fits : p.number * cap + cap ≤ length s.books = omega (arith, size, from_p, within, pair.first.books_long) in
         let books_is = copy
-        ∙ ap (λ z. paste s.books z (drop b s.books) (b + n - b)) to_i
-        ∙ ap (λ z. paste s.books (i.number * cap) (drop z s.books) (b + n - b)) from_p
-        ∙ ap (paste s.books (i.number * cap) (drop (p.number * cap) s.books)) (long ∙ count)
+        ∙ ap (λ z. paste s.books z (drop b s.books) n) to_i
+        ∙ ap (λ z. paste s.books (i.number * cap) (drop z s.books) n) from_p
+        ∙ ap (paste s.books (i.number * cap) (drop (p.number * cap) s.books)) count
         ∙ part_copied s.books cap i.number p.number (row s p).length fits
         ∙ ap (λ z. with_part s.books cap i.number z) (sym taken.0) in
         d.goes ∙ ap (λ z. sending s (λ y. tt) z (after s i p)) d.result_is

@@ -12,7 +12,7 @@ use std::ops::Range;
 impl Site {
     // Whether the site is made, with memory of these lengths. The count is asked too: the definitions
     // speak of any record, and so of one that no make left.
-    pub fn is_made<E>(&self, books: &[Entry<E>], pool: &[Message<E>]) -> bool
+    pub(crate) fn is_made<E>(&self, books: &[Entry<E>], pool: &[Message<E>]) -> bool
         ensures value { result ≡ made_with self.now (length books.now) (length pool.now) }
         ensures few { result ≡ true → length pool.now ≤ 65535 }
     {
@@ -35,14 +35,14 @@ impl Site {
     }
 
     // Whether the pool has room for one more message.
-    pub fn has_room<E>(&self, pool: &[Message<E>]) -> bool
+    pub(crate) fn has_room<E>(&self, pool: &[Message<E>]) -> bool
         ensures { result ≡ nat_lt self.now.count (length pool.now) }
     {
         (self.count as usize) < pool.len()
     }
 
     // Controller i of this site.
-    pub fn member<E>(
+    pub(crate) fn member<E>(
         &self,
         books: &[Entry<E>],
         pool: &[Message<E>],
@@ -57,7 +57,7 @@ impl Site {
     }
 
     // Controllers i and b of this site, which are two.
-    pub fn pair<E>(
+    pub(crate) fn pair<E>(
         &self,
         books: &[Entry<E>],
         pool: &[Message<E>],
@@ -75,7 +75,7 @@ impl Site {
     }
 
     // Puts a message at the end of the pool.
-    pub fn send<E: Copy>(&mut self, pool: &mut [Message<E>], message: Message<E>)
+    pub(crate) fn send<E: Copy>(&mut self, pool: &mut [Message<E>], message: Message<E>)
         requires { (self.old.count < length pool.old) × (self.old.count < 65535) }
         ensures site { self.new ≡ with_count self.old (self.old.count + 1) }
         ensures pool { pool.new ≡ slice_set pool.old self.old.count message }

@@ -69,7 +69,7 @@ impl From<ControllerFault> for Fault {
 }
 
 // A controller's fault at a delivery names the message, but for a worn cell.
-pub fn of_message(fault: ControllerFault, number: u16) -> Fault
+pub(crate) fn of_message(fault: ControllerFault, number: u16) -> Fault
     ensures { result ≡ named_by number fault }
 {
     match fault {

@@ -1,5 +1,6 @@
 // A waiting controller joins the view of another, and takes over its book.
-ghost use Rattle.std.specs.Prelude.{◌≡◌, min};
+ghost use Rattle.std.specs.Prelude.{◌≡◌, ◌⊎◌, ◌+◌, ◌≤◌, drop, length, min};
+ghost use lib.Seq.{paste};
 ghost use Rattle.site.specs.States.{done, state};
 ghost use Rattle.site.specs.Steps.{join_step};
 
@@ -15,6 +16,24 @@ fn used(row: &Controller, cap: u16) -> usize
     ensures { result ≡ min row.now.length cap }
 {
     row.length.min(cap) as usize
+}
+
+// Copies so many entries over those at another place, which lie apart from them. In two parts, and not
+// by `copy_within`, which goes entry by entry.
+fn copy_apart<E: Copy>(books: &mut [Entry<E>], from: usize, to: usize, count: usize)
+    requires within { (from + count ≤ length books.old) × (to + count ≤ length books.old) }
+    requires apart { (from + count ≤ to) ⊎ (to + count ≤ from) }
+    ensures { books.new ≡ paste books.old to (drop from books.old) count }
+{
+    if from < to {
+        let (before, after) = books.split_at_mut(to);
+        let before: &[Entry<E>] = before;
+        after[..count].copy_from_slice(&before[from..from + count]);
+    } else {
+        let (before, after) = books.split_at_mut(from);
+        let after: &[Entry<E>] = after;
+        before[to..to + count].copy_from_slice(&after[..count]);
+    }
 }
 
 impl Site {
@@ -39,7 +58,7 @@ impl Site {
         let shared: &[Entry<E>] = books;
         let (book, log) = (&shared[mine], &shared[theirs]);
         let message = controller::join(me, row, cab, book, leader, &led, log, room)?;
-        books.copy_within(from..from + used(&led, self.cap), to);
+        copy_apart(books, from, to, used(&led, self.cap));
         self.send(pool, message);
         Ok(())
     }

@@ -1,4 +1,4 @@
-//! Occurrence: random scripts reach every question that a script can reach, and every outcome.
+//! Occurrence: random scripts reach every question that a few hundred steps can reach, and every outcome.
 
 use std::collections::{BTreeMap, BTreeSet};
 
@@ -6,7 +6,7 @@ use peer::desk::{Desk, Outcome, Tally, Written, run, strip_bytes};
 use peer::generate::{Maker, random_setup, script};
 use peer::random::Random;
 use peer::script::{KindName, Setup, Step};
-use peer::*;
+use peer::{spoil, *};
 
 #[derive(Default)]
 struct Seen {
@@ -61,7 +61,8 @@ fn watch<K: Written>(setup: &Setup, random: Random, steps: usize, seen: &mut See
     }
 }
 
-/// Who asks each question that a script can reach, from the table of section 13.
+/// Who asks each question, from the table of section 13, without those that these scripts do not reach. 13 takes
+/// more calls than they have steps. No script reaches 4, 16, 10 at an acknowledgement or a join, and 17 at a put.
 const ASKED: [(u16, &str); 14] = [
     (1, "change pass call invite form deliver join settle lookup crash recover lose"),
     (2, "change pass call invite form join settle lookup crash recover"),
@@ -116,6 +117,18 @@ fn the_same_seed_makes_the_same_script() {
         assert_eq!(script(seed, 80), script(seed, 80));
     }
     assert_ne!(script(1, 80), script(2, 80));
+}
+
+#[test]
+fn some_scripts_are_spoiled() {
+    let ways: Vec<bool> = (0..200).map(|seed| spoil::script(seed, 20).1).collect();
+    let spoiled = ways.iter().filter(|spoiled| **spoiled).count();
+    assert!((30..70).contains(&spoiled), "{spoiled}");
+    for (seed, spoiled) in (0..).zip(ways) {
+        let made = spoil::script(seed, 20);
+        assert_eq!(made, spoil::script(seed, 20));
+        assert!(spoiled || made.0 == script(seed, 20).as_bytes());
+    }
 }
 
 #[test]

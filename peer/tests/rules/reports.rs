@@ -1,4 +1,6 @@
-//! Reports: one script with every sort of line, and lines that are no step.
+//! Reports: one script with every sort of line, lines that are no step, and the scripts of `examples/`.
+
+use std::path::{Path, PathBuf};
 
 use peer::desk::{Report, Tally, run};
 
@@ -160,8 +162,73 @@ fn lines_that_are_no_step() {
     }
     assert_eq!(line_of("site cards 3 4 8 strip 56\nchange 0 1 2 3\n"), Some(2));
     assert_eq!(line_of("call 0\n"), Some(1));
-    // Without any step, at the line after the last.
+    // Without the site's line, at the line after the last. That line alone is a script.
     assert_eq!(line_of(""), Some(1));
     assert_eq!(line_of("\n# only a comment"), Some(3));
-    assert_eq!(line_of(site), Some(2));
+    assert_eq!(line_of(site), None);
+}
+
+#[test]
+fn lines_that_are_too_long() {
+    let site = "site cards 3 4 8 tray 5\n";
+    for end in ["", "\n", "\ncall 0\n"] {
+        let comment = |bytes: usize| format!("call 0#{}", "x".repeat(bytes - 7));
+        let longest = report(&format!("{site}{}{end}", comment(65_536)));
+        assert_eq!(longest.bad.map(|bad| bad.line), None);
+        let longer = report(&format!("{site}{}{end}", comment(65_537)));
+        assert_eq!((longer.text.as_str(), longer.bad.map(|bad| bad.line)), ("made\n", Some(2)));
+    }
+    let first = format!("{}\r\n{site}", " ".repeat(65_536));
+    assert_eq!(report(&first).bad.map(|bad| bad.line), Some(1));
+}
+
+#[test]
+fn accounts() {
+    let told = |script: &str| report(script).account.told();
+    assert_eq!(
+        told("site cards 2 4 8 tray 5\nshow\ncall 0\nsettle 0 0 7 1\n"),
+        "= 0 steps were taken and 2 refused.\n= The site was not made.\n"
+    );
+    // A slip counts once, and only if a change handed it out.
+    let site = "site cards 3 4 8 tray 5\nchange 0 7 9 given\n";
+    assert_eq!(
+        told(site),
+        "= 1 step was taken and 0 refused.\n= 1 change was handed out: 0 confirmed, 0 lost, 1 still waiting.\n"
+    );
+    let settled = "pass 0 1 1\ndeliver 0\ndeliver 1\nsettle 0 0 0 1\nsettle 0 0 0 1\nsettle 0 0 0 9\nshow\n";
+    assert_eq!(
+        told(&format!("{site}change 0 7 9 given\n{settled}")),
+        "= 8 steps were taken and 0 refused.\n= 2 changes were handed out: 1 confirmed, 0 lost, 1 still waiting.\n"
+    );
+}
+
+/// The scripts in this folder, which has some.
+fn scripts(folder: &str) -> Vec<PathBuf> {
+    let folder = Path::new(env!("CARGO_MANIFEST_DIR")).join("../examples").join(folder);
+    let files = std::fs::read_dir(folder).unwrap().map(|file| file.unwrap().path());
+    let scripts: Vec<PathBuf> = files.filter(|path| path.extension().is_some_and(|end| end == "txt")).collect();
+    assert!(!scripts.is_empty());
+    scripts
+}
+
+#[test]
+fn the_examples() {
+    for path in scripts("") {
+        let own = run(&std::fs::read(&path).unwrap(), &mut Tally::default());
+        let stored = std::fs::read_to_string(path.with_extension("report")).unwrap();
+        assert!(stored.starts_with(&(own.text + &own.account.told())), "{}", path.display());
+        assert_eq!(own.bad, None, "{}", path.display());
+    }
+}
+
+#[test]
+fn the_examples_with_a_bad_line() {
+    for path in scripts("bad") {
+        let own = run(&std::fs::read(&path).unwrap(), &mut Tally::default());
+        let stored = std::fs::read_to_string(path.with_extension("report")).unwrap();
+        assert_eq!(own.text, stored, "{}", path.display());
+        let said = std::fs::read_to_string(path.with_extension("error")).unwrap();
+        let line = own.bad.unwrap_or_else(|| panic!("{}", path.display())).line;
+        assert!(said.starts_with(&format!("line {line}: expected ")), "{}", path.display());
+    }
 }

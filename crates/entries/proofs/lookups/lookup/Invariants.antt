@@ -1,10 +1,10 @@
 use Rattle.std.proofs.Common.{◌≡◌, length}
-use Rattle.entries.specs.Lookups.{settled}
+use Rattle.entries.specs.Lookups.{or_else, settled}
 use Rattle.entries.proofs.lookups.lookup.Given as goal
 
--- what is left settles the question as the whole book does
-abbrev pub invariant-loop-last : goal.invariant-loop-last
-invariant-loop-last g l = settled g.E.Kind.says l.rest l.question ≡ settled g.E.Kind.says l.book l.question
+-- the last entry and what is left before it settle the question as the whole book does
+abbrev pub invariant-loop-answer : goal.invariant-loop-answer
+invariant-loop-answer g l = or_else (g.E.Kind.says l.last.change l.question) (settled g.E.Kind.says l.rest l.question) ≡ settled g.E.Kind.says l.book l.question
 
-abbrev pub decreases-loop-last : goal.decreases-loop-last
-decreases-loop-last g l = length l.rest
+abbrev pub decreases-loop-answer : goal.decreases-loop-answer
+decreases-loop-answer g l = length l.rest

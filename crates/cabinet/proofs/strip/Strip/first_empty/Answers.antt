@@ -11,7 +11,7 @@ returns-clause-place c =
     let s = c.args.self.now in
     let p = c.in_ok-part.part.now in
     let mine = c.in_ok-part.ensures in
-    let place = slice_next s.bytes.now p c.args.cell mine.place.2 mine.place.1 c.filled_slots-n.result c.filled_slots-n.ensures.value in
+    let place = slice_next s.bytes.now p c.args.cell mine.place.2 mine.place.1 c.filled-n.result c.filled-n.ensures.value in
     ap Some place ∙ sym (cond-false _ _ _ (not_worn (cell_at (cells_in s) c.args.cell) p mine.cell (omega arith)))
 
 pub returns-clause-room : goal.returns-clause-room

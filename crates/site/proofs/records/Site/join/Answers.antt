@@ -1,7 +1,7 @@
-use Rattle.std.proofs.Common.{Err, sym, ap, ◌∙◌, arith, rules}
+use Rattle.std.proofs.Common.{Err, ap, ◌∙◌, arith, rules}
 use Rattle.std.proofs.lemmas.Result.{err_from_is_err_and}
+use Rattle.site.proofs.Copied.{parts_lie_apart}
 use Rattle.site.proofs.Joined.{join_refused, join_room, join_sent, joins}
-use Rattle.site.proofs.Lent.{lent}
 use Rattle.site.proofs.records.Site.join.Goals as goal
 
 pub returns-in_err-message : goal.returns-in_err-message
@@ -12,6 +12,9 @@ returns-in_err-message g c =
     (record { who = m.second.number; row = c.index.ensures.value; from = c.part-theirs.ensures.start; to = c.part-theirs.ensures.end }) c.has_room-room.ensures c.in_err-message.ensures.result was.row was.cells in
     let end = err_from_is_err_and c.from_residual-in_err-message.result c.from_residual-in_err-message.ensures.1 in
     join_refused d (end.1 ∙ ap (λ z. Err z) end.2)
+
+pub copy_apart-requires-clause-apart : goal.copy_apart-requires-clause-apart
+copy_apart-requires-clause-apart g c = parts_lie_apart c.in_ok-me.ensures c.part-mine.ensures.start c.part-theirs.ensures.start (omega (arith, c.used.ensures))
 
 pub send-requires : goal.send-requires
 send-requires g c =
@@ -28,5 +31,5 @@ returns g c =
     let m = c.in_ok-me.ensures in
     let d = joins m (record { who = m.first.number; row = c.index-2.ensures.value; from = c.part-mine.ensures.start; to = c.part-mine.ensures.end })
     (record { who = m.second.number; row = c.index.ensures.value; from = c.part-theirs.ensures.start; to = c.part-theirs.ensures.end }) c.has_room-room.ensures c.in_ok-message.ensures.result was.row was.cells in
-    let e = join_sent d m c.part-mine.ensures.start c.part-theirs.ensures.start (search rules) (search rules) c.copy_within.ensures.after in
+    let e = join_sent d m c.part-mine.ensures.start c.part-theirs.ensures.start (search rules) (search rules) c.copy_apart.ensures in
     search rules

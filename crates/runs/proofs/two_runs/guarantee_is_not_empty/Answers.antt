@@ -1,8 +1,0 @@
-use Rattle.std.proofs.Common.{refl}
-use Rattle.controller.specs.Verdicts.{lengths_of}
-use Rattle.controller.specs.ViewChanges.{form_choice}
-use Rattle.runs.proofs.two_runs.guarantee_is_not_empty.Goals as goal
-
-pub returns : goal.returns
-unfolding lengths_of form_choice
-returns c = record { confirmed = refl; lost = refl }

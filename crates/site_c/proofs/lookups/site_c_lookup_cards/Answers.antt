@@ -1,0 +1,15 @@
+use Rattle.std.proofs.Common.{◌≡◌, map, take, inr, sym, ap, ◌∙◌, rules}
+use Rattle.std.proofs.lemmas.Iterator.{YieldsList-from_map_by, YieldsList-from_slice}
+use Rattle.std.proofs.lemmas.Iterator.Consumers.{map_from_collect}
+use Rattle.std.proofs.lemmas.List.{map-id}
+use Rattle.std.proofs.lemmas.Result.{IfOk-at_ok}
+use Rattle.entries.specs.Says.{card_says}
+use Rattle.entries.specs.declared.kinds.Answer.TheVariants.{Red}
+use Rattle.forming.specs.Counting.{count}
+use Rattle.site_c.specs.Lookups.{answers_green, card_entry}
+use Rattle.site_c.proofs.lookups.site_c_lookup_cards.Goals as goal
+
+pub returns-in-Ok : goal.returns-in-Ok
+returns-in-Ok c =
+    let collected : c.in-Ok.book.items ≡ map card_entry c.args.rows.now = sym (map-id _) ∙ IfOk-at_ok _ c.in-Ok.is (map_from_collect {v = λ x. x} _ c.collect-book.ensures.ran (YieldsList-from_map_by _ _ _ (YieldsList-from_slice c.args.rows.now cc) c.map.ensures.closure (λ x r q k. search rules))) in
+    inr (c.greens.ensures ∙ ap (λ es. count (answers_green card_says Red (take 65535 es)) c.args.questions.now) (c.deref.ensures.value ∙ collected))
