@@ -1,29 +1,33 @@
 -- A put into a strip: the slot found for it, the form while it is written, and the cells after it. Assumes nothing.
-use Rattle.std.proofs.Common.{◌≡◌, ℕ, ◌+◌, ◌-◌, ◌*◌, ◌<◌, ◌≤◌, Bool, true, false, cond, List, ◌∷◌, length, get_or, take, drop, set, Some, None, sym, refl, ap, ◌∙◌, subst, arith}
+use Rattle.std.proofs.Common.{◌≡◌, ℕ, ◌+◌, ◌-◌, ◌<◌, ◌≤◌, Bool, true, false, cond, List, [], ◌∷◌, length, get_or, drop, set, Some, None, sym, refl, ap, ◌∙◌, subst, arith}
 use Rattle.std.specs.Bool.{Decides}
 use borrow.Rule.Slice.PartMut.{put_mid}
-use Rattle.std.proofs.lemmas.List.{get_or-drop, get_or-take}
-use Rattle.std.proofs.lemmas.Bool.{eqb-true, not-false}
 use Rattle.numbers.specs.declared.rows.Row.{Row}
 use Rattle.numbers.specs.Rows.{row_ok}
 use Rattle.cabinet.specs.Cells.{is_worn, put_cells}
 use Rattle.cabinet.specs.declared.cells.Cell.{Cell}
-use Rattle.cabinet.specs.Slots.{slot_bytes, with_slot, slots_in, filled, part_cell, part_size, part, StripForm, Counted, strip_cells, next_slot, put_bytes}
-use Rattle.cabinet.proofs.Blocks.{over, rest_written, all_written}
-use Rattle.cabinet.proofs.Cuts.{part_length, written_form, written_cells, written_counted, written_counts}
+use Rattle.cabinet.specs.Slots.{slot_bytes, with_slot, slots_in, filled, part_cell, part, StripForm, Counted, strip_cells, next_slot, put_bytes}
+use Rattle.cabinet.proofs.Blocks.{over, block_written, first_written}
+use Rattle.cabinet.proofs.Cuts.{written_form, written_cells, written_counted, written_counts}
 use Rattle.cabinet.proofs.Fills.{free_form, free_filled, fill_form, fill_filled, fill_cell}
-use Rattle.cabinet.proofs.Search.{filled_stop}
 use Rattle.cabinet.proofs.Strips.{cell_sound}
 
--- byte i begins the first empty slot of cell c, one of the seven of a strip in form, and rest, the slot's later bytes, is written there before its first
+-- a slot with 0 as its first byte
+abbrev pub with_zero : List ℕ → List ℕ
+with_zero s = 0 ∷ get_or s 1 0 ∷ get_or s 2 0 ∷ get_or s 3 0 ∷ get_or s 4 0 ∷ get_or s 5 0 ∷ get_or s 6 0 ∷ get_or s 7 0 ∷ []
+
+-- byte i begins the first empty slot of cell c, one of the seven of a strip in form, and the slot is written there with 0 as its first byte, and then that byte
 module _ (flag : Bool) (bs : List ℕ) (c i : ℕ) (told : Decides flag (StripForm bs)) (e : Some i ≡ cond (is_worn (strip_cells flag bs) c) None (Some (next_slot bs c)))
     (mine : (flag ≡ true) × (c < 7) × (filled (part bs c) < slots_in (part bs c))) (fits : i + 8 ≤ length bs)
-    (k : ℕ) (slot rest : List ℕ) (v : Row) (kept : row_ok v ≡ true) (seven : k ≡ 7) (bytes : slot ≡ slot_bytes v) (after : rest ≡ take 7 (drop 1 slot)) where
+    (k : ℕ) (slot free : List ℕ) (v : Row) (kept : row_ok v ≡ true) (eight : k ≡ 8) (bytes : slot ≡ slot_bytes v) (after : free ≡ with_zero slot) where
+  abbrev rest : List ℕ
+  rest = drop 1 (slot_bytes v)
+
   first : get_or slot 0 0 ≡ 1
   first = ap (λ z. get_or z 0 0) bytes
 
-  later : rest ≡ drop 1 (slot_bytes v)
-  later = after ∙ ap (λ z. take 7 (drop 1 z)) bytes
+  freed : put_mid i k bs free ≡ over bs i 8 (0 ∷ rest)
+  freed = block_written bs i k free ∙ ap (λ n. over bs i n free) eight ∙ ap (over bs i 8) (after ∙ ap with_zero bytes)
 
   left : is_worn (strip_cells flag bs) c ≡ false
   left = grind arith
@@ -33,15 +37,6 @@ module _ (flag : Bool) (bs : List ℕ) (c i : ℕ) (told : Decides flag (StripFo
 
   form : StripForm bs
   form = told.0 mine.0
-
-  -- the slot's first byte is 0
-  slot_free : get_or bs i 0 ≡ 0
-  slot_free =
-      let p = part bs c in
-      let n = filled p in
-      let empty : get_or p (8 * n) 0 ≡ 0 = eqb-true (get_or p (8 * n) 0) 0 (not-false _ (filled_stop p mine.2)) in
-      let inside : 8 * n < part_size bs = omega (arith, mine.2, part_length bs c mine.1) in
-      ap (λ j. get_or bs j 0) place ∙ sym (get_or-take (part_size bs) _ (8 * n) 0 inside ∙ get_or-drop (c * part_size bs) bs (8 * n) 0) ∙ empty
 
   -- the form holds after it
   put_form : StripForm (with_slot bs i v)
@@ -65,36 +60,34 @@ module _ (flag : Bool) (bs : List ℕ) (c i : ℕ) (told : Decides flag (StripFo
       grind arith
 
   -- until the first byte comes the slot is empty, and the form holds
-  pub rest_told : Decides flag (StripForm (put_mid (i + 1) k bs rest))
+  pub rest_told : Decides flag (StripForm (put_mid i k bs free))
   rest_told =
       let p = part bs c in
-      let long : length (0 ∷ rest) ≡ 8 = ap (λ z. length (0 ∷ z)) later in
-      let whole = rest_written bs rest i 8 k 0 fits (omega arith) ∙ ap (λ z. over bs i 8 (z ∷ rest)) slot_free ∙ ap (λ j. over bs j 8 (0 ∷ rest)) place in
-      ((λ _. subst StripForm (sym whole) (written_form bs c (filled p) (0 ∷ rest) mine.1 mine.2 long form (free_form p (0 ∷ rest) (form.parts c mine.1) mine.2 long refl))), (λ _. mine.0))
+      let whole = freed ∙ ap (λ j. over bs j 8 (0 ∷ rest)) place in
+      ((λ _. subst StripForm (sym whole) (written_form bs c (filled p) (0 ∷ rest) mine.1 mine.2 refl form (free_form p (0 ∷ rest) (form.parts c mine.1) mine.2 refl refl))), (λ _. mine.0))
 
-  written : set (put_mid (i + 1) k bs rest) i (get_or slot 0 0) ≡ with_slot bs i v
-  written = all_written bs rest i 8 k 0 fits (omega arith) (get_or slot 0 0) ∙ ap (λ z. over bs i 8 (z ∷ rest)) first ∙ ap (λ z. over bs i 8 (1 ∷ z)) later
+  written : set (put_mid i k bs free) i (get_or slot 0 0) ≡ with_slot bs i v
+  written = ap (λ z. set z i (get_or slot 0 0)) freed ∙ first_written bs i 8 rest (omega arith) 0 (get_or slot 0 0) ∙ ap (λ z. over bs i 8 (z ∷ rest)) first
 
-  pub put_told : Decides flag (StripForm (set (put_mid (i + 1) k bs rest) i (get_or slot 0 0)))
+  pub put_told : Decides flag (StripForm (set (put_mid i k bs free) i (get_or slot 0 0)))
   put_told = ((λ _. subst StripForm (sym written) put_form), (λ _. mine.0))
 
-  pub put_bytes_are : set (put_mid (i + 1) k bs rest) i (get_or slot 0 0) ≡ put_bytes flag bs c v
+  pub put_bytes_are : set (put_mid i k bs free) i (get_or slot 0 0) ≡ put_bytes flag bs c v
   put_bytes_are = written ∙ put_where
 
-  pub put_cells_are : strip_cells flag (set (put_mid (i + 1) k bs rest) i (get_or slot 0 0)) ≡ put_cells (strip_cells flag bs) c v
+  pub put_cells_are : strip_cells flag (set (put_mid i k bs free) i (get_or slot 0 0)) ≡ put_cells (strip_cells flag bs) c v
   put_cells_are = ap (strip_cells flag) written ∙ put_done
 
   -- the counts hold until the first byte comes, and with one more after it
   module _ (ns : List ℕ) (counted : Counted ns bs) where
-    pub rest_counted : Counted ns (put_mid (i + 1) k bs rest)
+    pub rest_counted : Counted ns (put_mid i k bs free)
     rest_counted =
         let p = part bs c in
-        let long : length (0 ∷ rest) ≡ 8 = ap (λ z. length (0 ∷ z)) later in
-        let whole = rest_written bs rest i 8 k 0 fits (omega arith) ∙ ap (λ z. over bs i 8 (z ∷ rest)) slot_free ∙ ap (λ j. over bs j 8 (0 ∷ rest)) place in
-        let same = free_filled p (0 ∷ rest) (form.parts c mine.1) mine.2 long refl in
-        subst (Counted ns) (sym whole) (written_counted bs c (filled p) (0 ∷ rest) mine.1 mine.2 long ns (counted c mine.1 ∙ sym same) counted)
+        let whole = freed ∙ ap (λ j. over bs j 8 (0 ∷ rest)) place in
+        let same = free_filled p (0 ∷ rest) (form.parts c mine.1) mine.2 refl refl in
+        subst (Counted ns) (sym whole) (written_counted bs c (filled p) (0 ∷ rest) mine.1 mine.2 refl ns (counted c mine.1 ∙ sym same) counted)
 
-    pub put_counted : length ns ≡ 7 → Counted (set ns c (get_or ns c 0 + 1)) (set (put_mid (i + 1) k bs rest) i (get_or slot 0 0))
+    pub put_counted : length ns ≡ 7 → Counted (set ns c (get_or ns c 0 + 1)) (set (put_mid i k bs free) i (get_or slot 0 0))
     put_counted size =
         let p = part bs c in
         let one : get_or ns c 0 + 1 ≡ filled p + 1 = ap (λ n. n + 1) (counted c mine.1) in

@@ -15,11 +15,11 @@ pub fn filled_slots(part: &[u8]) -> usize
     part.chunks_exact(8).take_while(|slot| slot[0] != 0).count()
 }
 
-// Whether the filled slots come first, each in form, and all the rest are empty.
-pub fn is_in_form(part: &[u8]) -> bool
+// Whether the n filled slots come first, each in form, and all the rest are empty.
+pub fn is_in_form(part: &[u8], n: usize) -> bool
+    requires { n ≡ filled part.now }
     ensures { Decides result (PartForm part.now) }
 {
-    let n = filled_slots(part);
     part.chunks_exact(8).enumerate().all(|(k, slot)| if k < n {
         read_slot(slot).is_ok()
     } else {

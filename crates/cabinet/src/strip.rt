@@ -31,7 +31,7 @@ impl<'a> Strip<'a> {
     pub fn check(bytes: &[u8]) -> Result<(), Refusal>
         ensures { MatchResult result (λ _. StripForm bytes.now) (λ e. (StripForm bytes.now → ⊥) × (e ≡ refusal 17)) }
     {
-        if bytes_are_in_form(bytes) {
+        if bytes_are_in_form(bytes, &filled_counts(bytes)) {
             Ok(())
         } else {
             Err(Refusal::BadForm)
@@ -44,8 +44,8 @@ impl<'a> Strip<'a> {
         ensures lent { result.bytes.ghost_name ≡ bytes.entry.ghost_name }
         ensures tells { Decides result.sound (StripForm bytes.old) }
     {
-        let sound = bytes_are_in_form(bytes);
         let counts = filled_counts(bytes);
+        let sound = bytes_are_in_form(bytes, &counts);
         Strip {
             bytes,
             sound,
@@ -117,19 +117,30 @@ fn filled_counts(bytes: &[u8]) -> [usize; 7]
     from_fn(|cell| filled_slots(part_of(bytes, cell)))
 }
 
-// Whether all seven parts are in form.
-fn parts_are_in_form(bytes: &[u8]) -> bool
+// Whether all seven parts are in form; the counts of their filled slots are known.
+fn parts_are_in_form(bytes: &[u8], counts: &[usize; 7]) -> bool
+    requires { Counted counts.now bytes.now }
     ensures { Decides result ((c : ℕ) → c < 7 → PartForm (part bytes.now c)) }
 {
-    (0..7).all(|cell| is_in_form(part_of(bytes, cell)))
+    (0..7).all(|cell| is_in_form(part_of(bytes, cell), counts[cell]))
 }
 
-// Whether the bytes are a multiple of 56, from 56 to 57,344, and all seven parts are in form.
-fn bytes_are_in_form(bytes: &[u8]) -> bool
+// Whether the bytes are a multiple of 56, from 56 to 57,344, and all seven parts are in form; the
+// counts of their filled slots are known.
+fn bytes_are_in_form(bytes: &[u8], counts: &[usize; 7]) -> bool
+    requires { Counted counts.now bytes.now }
     ensures { Decides result (StripForm bytes.now) }
 {
     let n = bytes.len();
-    n % 56 == 0 && (56..=57_344).contains(&n) && parts_are_in_form(bytes)
+    n % 56 == 0 && (56..=57_344).contains(&n) && parts_are_in_form(bytes, counts)
+}
+
+// Writes eight bytes in one piece.
+fn write_eight(place: &mut [u8], bytes: [u8; 8])
+    requires { length place.old ≡ 8 }
+    ensures { place.new ≡ bytes }
+{
+    *place.as_mut_array().unwrap() = bytes;
 }
 
 impl<'a> Cabinet for Strip<'a> {
@@ -148,8 +159,8 @@ impl<'a> Cabinet for Strip<'a> {
         self.first_empty(cell).is_none()
     }
 
-    // Fills the first empty slot of the cell's part; every other byte stays. The slot's first byte
-    // comes last: until then the slot is empty.
+    // Fills the first empty slot of the cell's part; every other byte stays. All of it is written
+    // with a first byte of 0, and then that byte: until then the slot is empty.
     fn put(&mut self, cell: u16, new: CellRecord) -> Result<(), Worn>
         ensures result { result ≡ (if is_worn (cells_in self.old) cell then Err (record { cell = cell }) else Ok tt) }
         ensures after { cells_in self.new ≡ put_cells (cells_in self.old) cell (row_of new) }
@@ -160,9 +171,9 @@ impl<'a> Cabinet for Strip<'a> {
         let Some(at) = self.first_empty(cell) else {
             return Err(Worn { cell });
         };
-        let slot = slot_of(new);
-        self.bytes[at + 1..at + 8].copy_from_slice(&slot[1..]);
-        self.bytes[at] = slot[0];
+        let [first, a, b, c, d, e, f, last] = slot_of(new);
+        write_eight(&mut self.bytes[at..at + 8], [0, a, b, c, d, e, f, last]);
+        self.bytes[at] = first;
         self.counts[cell as usize] += 1;
         Ok(())
     }

@@ -18,7 +18,7 @@ use std::test::Fail;
 // The examples, as the definitions have them.
 fn stated()
     ensures majorities { (majority_of 3 ≡ 2) × (majority_of 4 ≡ 3) × (majority_of 7 ≡ 4) }
-    ensures order { earlier (view_of 1 2) (view_of 2 0) ≡ true }
+    ensures order { (earlier (view_of 1 2) (view_of 2 0) ≡ true) × (earlier (view_of 1 2) (view_of 1 3) ≡ true) }
     ensures slot { slot_bytes (record { current = view_of 5 1; promised = view_of 128 0 }) ≡ 1 ∷ 0 ∷ 5 ∷ 1 ∷ 0 ∷ 128 ∷ 0 ∷ 0 ∷ [] }
     ensures refused { choice_of (None ∷ Some (Normal (view_of 0 0) 0 false) ∷ Some (Crash (view_of 0 0)) ∷ []) 3 ≡ None }
     ensures led { choice_of (Some (Normal (view_of 0 0) 0 true) ∷ None ∷ Some (Crash (view_of 0 0)) ∷ []) 3 ≡ Some 0 }
@@ -44,6 +44,7 @@ fn worked_examples(rt: HostRuntime) -> Result<(), Fail> {
         assert_eq!(rt; majority(n), expected);
     }
     assert!(rt; View::of(1, 2).is_earlier(View::of(2, 0)));
+    assert!(rt; View::of(1, 2).is_earlier(View::of(1, 3)));
     let held = CellRecord::try_from(row((5, 1), (128, 0)))?;
     assert_eq!(rt; slot_of(held), [1, 0, 5, 1, 0, 128, 0, 0]);
     Ok(())

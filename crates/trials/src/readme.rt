@@ -1,6 +1,6 @@
-// The example of the README.
+// The examples of the README.
 use cabinet::*;
-use controller::Verdict;
+use controller::{Settled, Verdict};
 use entries::*;
 use numbers::*;
 use runs::{Outcome, Step, Turn, run};
@@ -80,5 +80,56 @@ fn example(rt: HostRuntime) -> Result<(), Fail> {
         return Err(Fail::new("the question was not answered"));
     };
     assert_eq!(rt; answer, Answer::Red);
+    Ok(())
+}
+
+// A change at controller 0, settled at once: the stamp of its slip, where it waits.
+fn settled(
+    site: &mut Site,
+    books: &mut [Entry<CardChange>],
+    pool: &[Message<CardChange>],
+) -> Result<Option<Stamp>, Fault> {
+    let zero = ControllerNumber::ZERO;
+    let given = CardChange {
+        card: 7,
+        doors: 9,
+        given: true,
+    };
+    let slip = site.change(books, pool, zero, given)?;
+    match site.settle(books, pool, zero, slip) {
+        Ok(Settled::Confirmed) => Ok(None),
+        Ok(Settled::Lost) => Ok(None),
+        Ok(Settled::Waiting { slip }) => Ok(Some(slip.set_aside())),
+        Err((fault, slip)) => {
+            let _ = slip.set_aside();
+            Err(fault)
+        }
+    }
+}
+
+// Nobody but the primary has the change.
+#[test]
+fn a_slip_waits(rt: HostRuntime) -> Result<(), Fail> {
+    let zero = ControllerNumber::ZERO;
+    let view = View::ZERO;
+    let change = CardChange {
+        card: 0,
+        doors: 0,
+        given: false,
+    };
+    let mut books = [Entry { view, change }; 9];
+    let pool = [Message {
+        sender: zero,
+        addressee: zero,
+        view,
+        body: Body::Invitation,
+    }; 8];
+    let mut site = Site::new();
+    assert!(rt; site.make(&Tray::new([9; 7]), &books, &pool, 3, 3).is_ok());
+    let place = Place { number: 1 };
+    assert_eq!(rt;
+        settled(&mut site, &mut books, &pool),
+        Ok(Some(Stamp { view, place }))
+    );
     Ok(())
 }

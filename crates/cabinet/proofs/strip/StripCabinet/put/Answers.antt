@@ -1,6 +1,7 @@
 use Rattle.std.proofs.Common.{◌+◌, get_or, ◌∙◌, arith}
 use Rattle.std.proofs.lemmas.List.{length-set}
 use Rattle.numbers.specs.Records.{row_of}
+use Rattle.cabinet.proofs.Cuts.{part_length}
 use Rattle.cabinet.proofs.Puts.{rest_told, rest_counted, put_told, put_counted, put_bytes_are, put_cells_are}
 use Rattle.cabinet.proofs.strip.StripCabinet.put.Goals as goal
 
@@ -9,25 +10,32 @@ invariant_of-self c =
     let s = c.args.self.now in
     record {
       seven = s.seven;
-      counted = rest_counted s.sound s.bytes.now c.args.cell c.in-Some.at s.tells c.in-Some.ensures.place c.in-Some.ensures.part c.in-Some.ensures.room _ _ _ (row_of c.args.new) c.args.new.kept (omega arith) c.slot_of-slot.ensures.bytes c.copy_from_slice.ensures.after s.counts s.counted;
-      tells = rest_told s.sound s.bytes.now c.args.cell c.in-Some.at s.tells c.in-Some.ensures.place c.in-Some.ensures.part c.in-Some.ensures.room _ _ _ (row_of c.args.new) c.args.new.kept (omega arith) c.slot_of-slot.ensures.bytes c.copy_from_slice.ensures.after;
+      counted = rest_counted s.sound s.bytes.now c.args.cell c.in-Some.at s.tells c.in-Some.ensures.place c.in-Some.ensures.part c.in-Some.ensures.room _ _ _ (row_of c.args.new) c.args.new.kept (omega arith) c.slot_of.ensures.bytes c.write_eight.ensures s.counts s.counted;
+      tells = rest_told s.sound s.bytes.now c.args.cell c.in-Some.at s.tells c.in-Some.ensures.place c.in-Some.ensures.part c.in-Some.ensures.room _ _ _ (row_of c.args.new) c.args.new.kept (omega arith) c.slot_of.ensures.bytes c.write_eight.ensures;
     }
+
+pub overflow_add-self : goal.overflow_add-self
+overflow_add-self c =
+    let s = c.args.self.now in
+    let mine = c.in-Some.ensures.part in
+    let form = s.tells.0 mine.0 in
+    omega (arith, form.most, mine.2, s.counted c.args.cell mine.1, part_length s.bytes.now c.args.cell mine.1)
 
 pub invariant_of-self-2 : goal.invariant_of-self-2
 invariant_of-self-2 c =
     let s = c.args.self.now in
     record {
       seven = length-set s.counts c.args.cell (get_or s.counts c.args.cell 0 + 1) ∙ s.seven;
-      counted = put_counted s.sound s.bytes.now c.args.cell c.in-Some.at s.tells c.in-Some.ensures.place c.in-Some.ensures.part c.in-Some.ensures.room _ _ _ (row_of c.args.new) c.args.new.kept (omega arith) c.slot_of-slot.ensures.bytes c.copy_from_slice.ensures.after s.counts s.counted s.seven;
-      tells = put_told s.sound s.bytes.now c.args.cell c.in-Some.at s.tells c.in-Some.ensures.place c.in-Some.ensures.part c.in-Some.ensures.room _ _ _ (row_of c.args.new) c.args.new.kept (omega arith) c.slot_of-slot.ensures.bytes c.copy_from_slice.ensures.after;
+      counted = put_counted s.sound s.bytes.now c.args.cell c.in-Some.at s.tells c.in-Some.ensures.place c.in-Some.ensures.part c.in-Some.ensures.room _ _ _ (row_of c.args.new) c.args.new.kept (omega arith) c.slot_of.ensures.bytes c.write_eight.ensures s.counts s.counted s.seven;
+      tells = put_told s.sound s.bytes.now c.args.cell c.in-Some.at s.tells c.in-Some.ensures.place c.in-Some.ensures.part c.in-Some.ensures.room _ _ _ (row_of c.args.new) c.args.new.kept (omega arith) c.slot_of.ensures.bytes c.write_eight.ensures;
     }
 
 pub returns-clause-after : goal.returns-clause-after
 returns-clause-after c =
     let s = c.args.self.now in
-    put_cells_are s.sound s.bytes.now c.args.cell c.in-Some.at s.tells c.in-Some.ensures.place c.in-Some.ensures.part c.in-Some.ensures.room _ _ _ (row_of c.args.new) c.args.new.kept (omega arith) c.slot_of-slot.ensures.bytes c.copy_from_slice.ensures.after
+    put_cells_are s.sound s.bytes.now c.args.cell c.in-Some.at s.tells c.in-Some.ensures.place c.in-Some.ensures.part c.in-Some.ensures.room _ _ _ (row_of c.args.new) c.args.new.kept (omega arith) c.slot_of.ensures.bytes c.write_eight.ensures
 
 pub returns-clause-bytes : goal.returns-clause-bytes
 returns-clause-bytes c =
     let s = c.args.self.now in
-    put_bytes_are s.sound s.bytes.now c.args.cell c.in-Some.at s.tells c.in-Some.ensures.place c.in-Some.ensures.part c.in-Some.ensures.room _ _ _ (row_of c.args.new) c.args.new.kept (omega arith) c.slot_of-slot.ensures.bytes c.copy_from_slice.ensures.after
+    put_bytes_are s.sound s.bytes.now c.args.cell c.in-Some.at s.tells c.in-Some.ensures.place c.in-Some.ensures.part c.in-Some.ensures.room _ _ _ (row_of c.args.new) c.args.new.kept (omega arith) c.slot_of.ensures.bytes c.write_eight.ensures
