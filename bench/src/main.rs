@@ -1,8 +1,10 @@
-//! The benchmark: each row is some work of the library and the same work of the peer, timed in turn.
+//! The benchmark: each row is some work of the library and the same work of the peer, timed in turn. With the word
+//! `table` it makes one table of the rows of several runs.
 
 mod inputs;
 mod library;
 mod peer_side;
+mod table;
 mod timing;
 
 use std::hint::black_box;
@@ -11,21 +13,23 @@ use inputs::{Numbers, Pair, Tally};
 use timing::{Times, alone, in_turn, timed};
 
 fn main() {
-    println!("| work | library | peer | library / peer |");
-    println!("|---|---|---|---|");
+    if std::env::args().nth(1).is_some_and(|word| word == "table") {
+        return table::print(&std::io::read_to_string(std::io::stdin()).expect("the rows can't be read"));
+    }
     lookups();
     changes();
     view_changes();
     cabinets();
 }
 
-fn show(name: &str, times: &Times) {
-    let Times { library, peer } = times;
-    println!("| {name} | {} | {} | {:.2} |", unit(*library), unit(*peer), library / peer);
+/// A number below a million, as it is read.
+fn read(number: usize) -> String {
+    if number < 1_000 { number.to_string() } else { format!("{},{:03}", number / 1_000, number % 1_000) }
 }
 
-fn unit(nanoseconds: f64) -> String {
-    if nanoseconds < 1_000.0 { format!("{nanoseconds:.1} ns") } else { format!("{:.2} µs", nanoseconds / 1_000.0) }
+/// A row: the work, and the times of both sides in nanoseconds.
+fn show(name: &str, times: &Times) {
+    println!("{name}\t{}\t{}", times.library, times.peer);
 }
 
 /// A call with all its work, less the same call with none of it: what is made before is not counted.
@@ -44,24 +48,23 @@ fn lookups() {
         ("cards", library::lookup_cards, peer_side::lookup_cards),
         ("hours", library::lookup_hours, peer_side::lookup_hours),
     ];
-    let mut speeds = Vec::new();
+    let mut long = Vec::new();
     for (kind, library, peer) in kinds {
         for length in [1, 64, 4_096, 65_535] {
             let book = inputs::book(length, kind == "cards");
             let none = inputs::unsettled((32_000_000 / length).clamp(500, 500_000));
-            let name = format!("lookup in {length} {kind}, nothing settles");
-            let times = look_up(&name, &book, &none, library, peer);
-            show(&name, &times);
+            let name = format!("lookup in {} {kind}, nothing settles", read(length));
+            show(&name, &look_up(&name, &book, &none, library, peer));
             if length > 1_000 {
-                speeds.push((name, length, times));
+                long.push((name, length));
             }
             let last = inputs::settled(500_000);
-            let name = format!("lookup in {length} {kind}, the last settles");
+            let name = format!("lookup in {} {kind}, the last settles", read(length));
             show(&name, &look_up(&name, &book, &last, library, peer));
         }
     }
-    for (name, length, times) in speeds {
-        show_speed(&name, 10 * length, &times);
+    for (name, length) in long {
+        show_sum(&name, 10 * length);
     }
 }
 
@@ -72,8 +75,8 @@ fn look_up(name: &str, book: &[Numbers], questions: &[Pair], library: Lookup, pe
     in_turn(name, questions.len(), side(library), side(peer))
 }
 
-/// Bytes per second beside those of a plain sum over memory of the same size.
-fn show_speed(name: &str, bytes: usize, times: &Times) {
+/// A row of a plain sum over memory of so many bytes: the bytes, and the time.
+fn show_sum(name: &str, bytes: usize) {
     let words: Vec<u64> = (0..bytes as u64 / 8).collect();
     let sums = 500;
     let sum = |words: &[u64]| words.iter().fold(0u64, |sum, word| sum.wrapping_add(*word));
@@ -85,14 +88,7 @@ fn show_speed(name: &str, bytes: usize, times: &Times) {
         })
         .0
     });
-    let speed = |time: f64| bytes as f64 / time;
-    println!(
-        "{name}: library {:.1} GB/s, peer {:.1} GB/s, a plain sum {:.1} GB/s; the library takes {:.2} of its time",
-        speed(times.library),
-        speed(times.peer),
-        speed(limit),
-        times.library / limit
-    );
+    println!("{name}\t{bytes}\t{limit}\tsum");
 }
 
 fn changes() {
@@ -109,7 +105,7 @@ fn changes() {
 fn view_changes() {
     for (cap, kept, rounds) in [(1, 0, 10_000), (65_535, 65_535, 50)] {
         for n in [3, 5, 7] {
-            let name = format!("a view change, n = {n}, books of {kept}");
+            let name = format!("a view change, n = {n}, books of {}", read(kept.into()));
             let side = |call: fn(u16, u16, u16, u16) -> Tally| {
                 less(move |all| call(black_box(n), cap, kept, if all { rounds } else { 0 }))
             };

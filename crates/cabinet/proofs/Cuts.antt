@@ -1,11 +1,11 @@
 -- The seven parts of a strip, and what becomes of them where a slot of one is written. Assumes nothing.
 use Rattle.std.proofs.Common.{◌≡◌, ℕ, ◌+◌, ◌*◌, ◌/◌, ◌%◌, ◌<◌, ◌≤◌, ◌≢◌, List, map, length, get_or, take, drop, set, sym, ap, ◌∙◌, subst, ⊎_elim, mul-le-mul_right, arith}
 use Rattle.std.specs.List.{range_with_len}
-use Rattle.std.proofs.lemmas.List.FromFn.{length-map-range_with_len, get_or-map-range_with_len, fill_by_all}
-use Rattle.std.proofs.lemmas.List.{get_or-set_same, get_or-set_other, length-drop, length-set, length-take}
+use Rattle.std.proofs.lemmas.List.{get_or-set_same, get_or-set_other, length-drop, length-take}
 use Rattle.std.proofs.lemmas.Bool.{cases_eq, cases_lt}
 use Rattle.cabinet.specs.declared.cells.Cell.{Cell}
 use Rattle.cabinet.specs.Slots.{slots_in, filled, part_cell, PartForm, part_size, part, StripForm, Counted, next_slot}
+use Rattle.cabinet.proofs.Places.{counted_set}
 use Rattle.cabinet.proofs.Blocks.{over, over_length, over_over, block_here, block_before, block_after}
 
 -- a part begins no earlier than the one before it ends
@@ -32,16 +32,6 @@ module _ (bs p : List ℕ) (c : ℕ) (mine : p ≡ part bs c) (lt : c < 7) where
 
   pub slice_next : (n : ℕ) → n ≡ filled p → c * length p + 8 * n ≡ next_slot bs c
   slice_next n e = omega (arith, slice_size, ap filled mine)
-
--- a list by its places, of which one has changed
-counted_set : {X : Type 0} (f g : ℕ → X) (n c : ℕ) (x : X) → c < n → g c ≡ x → ((i : ℕ) → i < n → i ≢ c → g i ≡ f i) → map g (range_with_len 0 n) ≡ set (map f (range_with_len 0 n)) c x
-counted_set f g n c x lt here else =
-    let long : length (map f (range_with_len 0 n)) ≡ n = length-map-range_with_len f 0 n in
-    sym (fill_by_all g (set (map f (range_with_len 0 n)) c x) n x (length-set (map f (range_with_len 0 n)) c x ∙ long)
-    (λ i h. ⊎_elim
-    (λ e. ap (λ j. get_or (set (map f (range_with_len 0 n)) c x) j x) e ∙ get_or-set_same (map f (range_with_len 0 n)) c x x (omega arith) ∙ sym (ap g e ∙ here))
-    (λ ne. get_or-set_other (map f (range_with_len 0 n)) c i x x ne ∙ get_or-map-range_with_len f 0 n i i x h (omega arith) ∙ sym (else i h ne))
-    (cases_eq i c)))
 
 -- slot n of part c written
 module _ (bs : List ℕ) (c n : ℕ) (s : List ℕ) (lt : c < 7) (room : n < slots_in (part bs c)) (long : length s ≡ 8) where

@@ -1,5 +1,5 @@
 -- A put into a strip: the slot found for it, the form while it is written, and the cells after it. Assumes nothing.
-use Rattle.std.proofs.Common.{◌≡◌, ℕ, ◌+◌, ◌-◌, ◌<◌, ◌≤◌, Bool, true, false, cond, List, [], ◌∷◌, length, get_or, drop, set, Some, None, sym, refl, ap, ◌∙◌, subst, arith}
+use Rattle.std.proofs.Common.{◌≡◌, ℕ, ◌+◌, ◌-◌, ◌<◌, ◌≤◌, Bool, true, false, cond, List, ◌∷◌, length, get_or, drop, set, Some, None, sym, refl, ap, ◌∙◌, subst, arith}
 use Rattle.std.specs.Bool.{Decides}
 use borrow.Rule.Slice.PartMut.{put_mid}
 use Rattle.numbers.specs.declared.rows.Row.{Row}
@@ -12,22 +12,15 @@ use Rattle.cabinet.proofs.Cuts.{written_form, written_cells, written_counted, wr
 use Rattle.cabinet.proofs.Fills.{free_form, free_filled, fill_form, fill_filled, fill_cell}
 use Rattle.cabinet.proofs.Strips.{cell_sound}
 
--- a slot with 0 as its first byte
-abbrev pub with_zero : List ℕ → List ℕ
-with_zero s = 0 ∷ get_or s 1 0 ∷ get_or s 2 0 ∷ get_or s 3 0 ∷ get_or s 4 0 ∷ get_or s 5 0 ∷ get_or s 6 0 ∷ get_or s 7 0 ∷ []
-
--- byte i begins the first empty slot of cell c, one of the seven of a strip in form, and the slot is written there with 0 as its first byte, and then that byte
+-- byte i begins the first empty slot of cell c, one of the seven of a strip in form, and the slot is written there with 0 as its first byte, and then 1 there
 module _ (flag : Bool) (bs : List ℕ) (c i : ℕ) (told : Decides flag (StripForm bs)) (e : Some i ≡ cond (is_worn (strip_cells flag bs) c) None (Some (next_slot bs c)))
     (mine : (flag ≡ true) × (c < 7) × (filled (part bs c) < slots_in (part bs c))) (fits : i + 8 ≤ length bs)
-    (k : ℕ) (slot free : List ℕ) (v : Row) (kept : row_ok v ≡ true) (eight : k ≡ 8) (bytes : slot ≡ slot_bytes v) (after : free ≡ with_zero slot) where
+    (k : ℕ) (free : List ℕ) (v : Row) (kept : row_ok v ≡ true) (eight : k ≡ 8) (after : free ≡ 0 ∷ drop 1 (slot_bytes v)) where
   abbrev rest : List ℕ
   rest = drop 1 (slot_bytes v)
 
-  first : get_or slot 0 0 ≡ 1
-  first = ap (λ z. get_or z 0 0) bytes
-
   freed : put_mid i k bs free ≡ over bs i 8 (0 ∷ rest)
-  freed = block_written bs i k free ∙ ap (λ n. over bs i n free) eight ∙ ap (over bs i 8) (after ∙ ap with_zero bytes)
+  freed = block_written bs i k free ∙ ap (λ n. over bs i n free) eight ∙ ap (over bs i 8) after
 
   left : is_worn (strip_cells flag bs) c ≡ false
   left = grind arith
@@ -66,16 +59,16 @@ module _ (flag : Bool) (bs : List ℕ) (c i : ℕ) (told : Decides flag (StripFo
       let whole = freed ∙ ap (λ j. over bs j 8 (0 ∷ rest)) place in
       ((λ _. subst StripForm (sym whole) (written_form bs c (filled p) (0 ∷ rest) mine.1 mine.2 refl form (free_form p (0 ∷ rest) (form.parts c mine.1) mine.2 refl refl))), (λ _. mine.0))
 
-  written : set (put_mid i k bs free) i (get_or slot 0 0) ≡ with_slot bs i v
-  written = ap (λ z. set z i (get_or slot 0 0)) freed ∙ first_written bs i 8 rest (omega arith) 0 (get_or slot 0 0) ∙ ap (λ z. over bs i 8 (z ∷ rest)) first
+  written : set (put_mid i k bs free) i 1 ≡ with_slot bs i v
+  written = ap (λ z. set z i 1) freed ∙ first_written bs i 8 rest (omega arith) 0 1
 
-  pub put_told : Decides flag (StripForm (set (put_mid i k bs free) i (get_or slot 0 0)))
+  pub put_told : Decides flag (StripForm (set (put_mid i k bs free) i 1))
   put_told = ((λ _. subst StripForm (sym written) put_form), (λ _. mine.0))
 
-  pub put_bytes_are : set (put_mid i k bs free) i (get_or slot 0 0) ≡ put_bytes flag bs c v
+  pub put_bytes_are : set (put_mid i k bs free) i 1 ≡ put_bytes flag bs c v
   put_bytes_are = written ∙ put_where
 
-  pub put_cells_are : strip_cells flag (set (put_mid i k bs free) i (get_or slot 0 0)) ≡ put_cells (strip_cells flag bs) c v
+  pub put_cells_are : strip_cells flag (set (put_mid i k bs free) i 1) ≡ put_cells (strip_cells flag bs) c v
   put_cells_are = ap (strip_cells flag) written ∙ put_done
 
   -- the counts hold until the first byte comes, and with one more after it
@@ -87,7 +80,7 @@ module _ (flag : Bool) (bs : List ℕ) (c i : ℕ) (told : Decides flag (StripFo
         let same = free_filled p (0 ∷ rest) (form.parts c mine.1) mine.2 refl refl in
         subst (Counted ns) (sym whole) (written_counted bs c (filled p) (0 ∷ rest) mine.1 mine.2 refl ns (counted c mine.1 ∙ sym same) counted)
 
-    pub put_counted : length ns ≡ 7 → Counted (set ns c (get_or ns c 0 + 1)) (set (put_mid i k bs free) i (get_or slot 0 0))
+    pub put_counted : length ns ≡ 7 → Counted (set ns c (get_or ns c 0 + 1)) (set (put_mid i k bs free) i 1)
     put_counted size =
         let p = part bs c in
         let one : get_or ns c 0 + 1 ≡ filled p + 1 = ap (λ n. n + 1) (counted c mine.1) in

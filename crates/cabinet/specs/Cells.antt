@@ -25,5 +25,5 @@ abbrev pub put_cells : List Cell → ℕ → Row → List Cell
 put_cells cs i w = cond (is_worn cs i) cs (slice_set cs i (record { row = w; left = (cell_at cs i).left - 1 }))
 
 -- every row keeps the form of a cell record
-abbrev pub AllKept : List Cell → Type 0
-AllKept cs = (k : ℕ) → row_ok (cell_at cs k).row ≡ true
+abbrev pub AllKept : List Row → Type 0
+AllKept rows = (k : ℕ) → row_ok (slice_index_or rows k zero_row) ≡ true

@@ -52,6 +52,14 @@ filled p = prefix_len (is_filled p) (range_with_len 0 (slots_in p))
 abbrev pub part_cell : List ℕ → Cell
 part_cell p = record { row = cond (filled p == 0) zero_row (row_in (slot_at p (filled p - 1))); left = slots_in p - filled p }
 
+-- every slot is filled and in form
+abbrev pub AllInForm : List ℕ → Type 0
+AllInForm p = (k : ℕ) → k < slots_in p → slot_ok (slot_at p k) ≡ true
+
+-- every slot is empty
+abbrev pub AllEmpty : List ℕ → Type 0
+AllEmpty p = (k : ℕ) → k < slots_in p → is_filled p k ≡ false
+
 -- filled slots come first, each in form; after the first empty one all are empty
 abbrev pub PartForm : List ℕ → Type 0
 PartForm p = (k : ℕ) → k < slots_in p → (k < filled p → slot_ok (slot_at p k) ≡ true) × (filled p ≤ k → is_filled p k ≡ false)

@@ -1,4 +1,4 @@
-// Cabinets: seven cells that keep their records through a power cut, each good for so many writes.
+//! Cabinets: seven cells that keep their records through a power cut, each good for so many writes.
 #![tactic(auto)]
 
 mod cells;

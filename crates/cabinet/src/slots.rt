@@ -1,25 +1,39 @@
-// One slot of a strip: a cell record as eight bytes, and back.
-ghost use Rattle.std.specs.Prelude.{◌≡◌, ◌+◌, ◌*◌, ◌/◌, ◌%◌, true, false, [], ◌∷◌, length, MatchResult};
+//! One slot of a strip: a cell record as eight bytes, and back.
+ghost use Rattle.std.specs.Prelude.{◌≡◌, ◌+◌, ◌*◌, ◌/◌, ◌%◌, true, false, [], ◌∷◌, length, drop, MatchResult};
 ghost use Rattle.numbers.specs.Records.{row_of};
 ghost use Rattle.numbers.specs.Refusals.{refusal};
+ghost use Rattle.numbers.specs.Rows.{row_ok};
 ghost use Rattle.numbers.specs.Views.{view_of, view_ok};
 ghost use Rattle.cabinet.specs.Slots.{slot_bytes, slot_ok, row_in, OneToOne};
 
 use numbers::{CellRecord, Refusal, Row, View};
 
-// The bytes of the filled slot with this record. Filled slots and records match one to one. Two
-// functions, and no `From` and `TryFrom`, which only the crate of the record could write.
+/// The bytes of the filled slot with this record. Filled slots and records match one to one. Two
+/// functions, and no `From` and `TryFrom`, which only the crate of the record could write.
 pub fn slot_of(new: CellRecord) -> [u8; 8]
     ensures bytes { result ≡ slot_bytes (row_of new) }
     ensures matched { OneToOne }
 {
-    let Row { current, promised } = new.row();
-    let [a, b, c] = view_bytes(current);
-    let [d, e, f] = view_bytes(promised);
-    [1, a, b, c, d, e, f, 0]
+    let mut slot = [0; 8];
+    write_slot(&mut slot, 1, new.row());
+    slot
 }
 
-// The record of a filled slot; refused where the bytes are not eight or are no filled slot.
+/// Writes a slot with that first byte and these views, as two numbers of four bytes, which are two
+/// stores.
+pub fn write_slot(place: &mut [u8], first: u8, row: Row)
+    requires size { length place.old ≡ 8 }
+    requires kept { row_ok row ≡ true }
+    ensures { place.new ≡ first ∷ drop 1 (slot_bytes row) }
+{
+    write_four(
+        &mut place[0..4],
+        first as u32 * 0x100_0000 + in_three(row.current),
+    );
+    write_four(&mut place[4..8], in_three(row.promised) * 256);
+}
+
+/// The record of a filled slot; refused where the bytes are not eight or are no filled slot.
 pub fn read_slot(slot: &[u8]) -> Result<CellRecord, Refusal>
     ensures { MatchResult result (λ x. (length slot.now ≡ 8) × (slot_ok slot.now ≡ true) × (row_of x ≡ row_in slot.now)) (λ e. (length slot.now ≡ 8 → slot_ok slot.now ≡ false) × (e ≡ refusal 17)) }
 {
@@ -31,13 +45,20 @@ pub fn read_slot(slot: &[u8]) -> Result<CellRecord, Refusal>
     CellRecord::try_from(Row { current, promised })
 }
 
-// The count of a view in two bytes, highest first, and its controller.
-fn view_bytes(view: View) -> [u8; 3]
+// The number of three bytes that a view is: two for its count, and its controller.
+fn in_three(view: View) -> u32
     requires { view_ok view ≡ true }
-    ensures { result ≡ view.count.number / 256 ∷ view.count.number % 256 ∷ view.controller.number ∷ [] }
+    ensures { result ≡ view.count.number * 256 + view.controller.number }
 {
-    let [high, low] = view.count.number.to_be_bytes();
-    [high, low, view.controller.number as u8]
+    view.count.number as u32 * 256 + view.controller.number as u32
+}
+
+// Writes a number as four bytes, highest first.
+fn write_four(place: &mut [u8], number: u32)
+    requires { length place.old ≡ 4 }
+    ensures { place.new ≡ number / 16777216 ∷ number / 65536 % 256 ∷ number / 256 % 256 ∷ number % 256 ∷ [] }
+{
+    *place.as_mut_array().unwrap() = number.to_be_bytes();
 }
 
 // The view of a count in two bytes, highest first, and a controller.

@@ -1,4 +1,4 @@
-// A strip: records in bytes that the caller lends, seven parts of slots that are filled in order.
+//! A strip: records in bytes that the caller lends, seven parts of slots that are filled in order.
 ghost use Rattle.std.specs.Prelude.{◌≡◌, ℕ, ◌+◌, ◌<◌, ◌≤◌, true, if◌then◌else◌, length, Some, None, Ok, Err, IfSome, Decides, MatchOption, MatchResult};
 ghost use Rattle.numbers.specs.Records.{row_of};
 ghost use Rattle.numbers.specs.Refusals.{refusal};
@@ -8,7 +8,7 @@ ghost use Rattle.cabinet.specs.Slots.{slots_in, filled, part, part_cell, PartFor
 use crate::cells::Worn;
 use crate::meaning::Cabinet;
 use crate::parts::{filled_slots, is_in_form, last_record};
-use crate::slots::slot_of;
+use crate::slots::write_slot;
 use numbers::{CellRecord, Refusal};
 use std::array::from_fn;
 
@@ -27,7 +27,7 @@ pub struct Strip<'a> {
 impl<'a> Strip<'a> {
     ghost use Rattle.cabinet.specs.Strips.{bytes_in, cells_in};
 
-    // Whether the bytes are in form; refused with BadForm where they are not.
+    /// Whether the bytes are in form; refused with BadForm where they are not.
     pub fn check(bytes: &[u8]) -> Result<(), Refusal>
         ensures { MatchResult result (λ _. StripForm bytes.now) (λ e. (StripForm bytes.now → ⊥) × (e ≡ refusal 17)) }
     {
@@ -38,7 +38,7 @@ impl<'a> Strip<'a> {
         }
     }
 
-    // The strip of these bytes, unchanged; where they are not in form, all its cells are worn.
+    /// The strip of these bytes, unchanged; where they are not in form, all its cells are worn.
     pub fn new(bytes: &'a mut [u8]) -> Strip<'a>
         ensures kept { bytes_in result ≡ bytes.old }
         ensures lent { result.bytes.ghost_name ≡ bytes.entry.ghost_name }
@@ -89,7 +89,7 @@ impl<'a> Strip<'a> {
         Some(cell as usize * part.len() + 8 * n)
     }
 
-    // The writes left of a cell, its empty slots; none for a cell of 7 or more.
+    /// The writes left of a cell, its empty slots; none for a cell of 7 or more.
     pub fn left(&self, cell: u16) -> u16
         ensures { result ≡ (cell_at (cells_in self.now) cell).left }
     {
@@ -135,14 +135,6 @@ fn bytes_are_in_form(bytes: &[u8], counts: &[usize; 7]) -> bool
     n % 56 == 0 && (56..=57_344).contains(&n) && parts_are_in_form(bytes, counts)
 }
 
-// Writes eight bytes in one piece.
-fn write_eight(place: &mut [u8], bytes: [u8; 8])
-    requires { length place.old ≡ 8 }
-    ensures { place.new ≡ bytes }
-{
-    *place.as_mut_array().unwrap() = bytes;
-}
-
 impl<'a> Cabinet for Strip<'a> {
     ghost use Rattle.cabinet.specs.Strips.{bytes_in, cells_in, strip_seven};
 
@@ -171,9 +163,8 @@ impl<'a> Cabinet for Strip<'a> {
         let Some(at) = self.first_empty(cell) else {
             return Err(Worn { cell });
         };
-        let [first, a, b, c, d, e, f, last] = slot_of(new);
-        write_eight(&mut self.bytes[at..at + 8], [0, a, b, c, d, e, f, last]);
-        self.bytes[at] = first;
+        write_slot(&mut self.bytes[at..at + 8], 0, new.row());
+        self.bytes[at] = 1;
         self.counts[cell as usize] += 1;
         Ok(())
     }

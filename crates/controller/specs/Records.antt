@@ -1,5 +1,5 @@
 -- A controller's record, and what can be read off it. Assumes nothing.
-use Rattle.std.specs.Prelude.{Bool, true, false, cond, List, replicate, Some, None, Option, ◌==◌, slice_set}
+use Rattle.std.specs.Prelude.{ℕ, Bool, true, false, cond, List, [], replicate, Some, None, Option, ◌==◌, slice_set}
 use Rattle.numbers.specs.declared.views.ControllerNumber.{ControllerNumber}
 use Rattle.numbers.specs.Rows.{zero_row}
 use Rattle.numbers.specs.Views.{controller_of}
@@ -59,6 +59,22 @@ leading Waiting = false
 leading (Manager a) = false
 leading Backup = false
 leading (Primary l) = true
+
+-- the answers that a manager counts; [] of any other status
+abbrev pub answers_of : Status → List (Option Reply)
+answers_of Down = []
+answers_of Waiting = []
+answers_of (Manager a) = a
+answers_of Backup = []
+answers_of (Primary l) = []
+
+-- the lengths that a primary has acknowledged; [] of any other status
+abbrev pub lengths_of : Status → List (Option ℕ)
+lengths_of Down = []
+lengths_of Waiting = []
+lengths_of (Manager a) = []
+lengths_of Backup = []
+lengths_of (Primary l) = l
 
 abbrev pub is_up : Controller → Bool
 is_up r = up r.status

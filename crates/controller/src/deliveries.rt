@@ -1,5 +1,6 @@
-// What a message does to its addressee.
-ghost use Rattle.std.specs.Prelude.{◌≡◌, ◌<◌, ◌≤◌, true};
+//! What a message does to its addressee.
+ghost use Rattle.std.specs.Prelude.{◌≡◌, ◌<◌, ◌≤◌, true, is_some, None, slice_index_or};
+ghost use Rattle.controller.specs.Records.{is_manager, is_primary, answers_of, lengths_of};
 ghost use Rattle.controller.specs.Books.{cap_of};
 ghost use Rattle.controller.specs.Deliveries.{delivered, taken, took_acknowledgement, took_answer, took_entry, took_form, took_invitation};
 ghost use Rattle.controller.specs.Messages.{body_ok, message_ok, reply_ok, view_below};
@@ -97,23 +98,34 @@ fn take_invitation<E: Copy, C: Cabinet>(
     }))
 }
 
+// Whether a manager has counted an answer of that controller.
+fn has_answered(row: &Controller, from: usize) -> bool
+    requires { from < 7 }
+    ensures { result ≡ is_some (slice_index_or (answers_of row.now.status) from None) }
+{
+    match &row.status {
+        Status::Manager { answers } => answers[from].is_some(),
+        _ => false,
+    }
+}
+
 // An answer to this manager: it is counted.
 fn take_answer<E: Copy>(
     me: Member,
     row: &mut Controller,
-    mut answers: [Option<Reply>; 7],
     message: Message<E>,
     reply: Reply,
 ) -> Result<Option<Message<E>>, Fault>
-    requires { message.sender.number < 7 }
-    ensures result { result ≡ (took_answer me.number row.old message answers reply).result }
-    ensures row { row.new ≡ (took_answer me.number row.old message answers reply).row }
+    requires { (message.sender.number < 7) × (is_manager row.old ≡ true) }
+    ensures result { result ≡ (took_answer me.number row.old message (answers_of row.old.status) reply).result }
+    ensures row { row.new ≡ (took_answer me.number row.old message (answers_of row.old.status) reply).row }
 {
     let from = message.sender.number as usize;
     ask(me, message.view == row.views.promised, Refusal::WrongView)?;
-    ask(me, answers[from].is_none(), Refusal::DoesNotFit)?;
-    answers[from] = Some(reply);
-    row.status = Status::Manager { answers };
+    ask(me, !has_answered(row, from), Refusal::DoesNotFit)?;
+    if let Status::Manager { answers } = &mut row.status {
+        answers[from] = Some(reply);
+    }
     Ok(None)
 }
 
@@ -179,19 +191,19 @@ fn take_entry<E: Copy>(
 fn take_acknowledgement<E: Copy>(
     me: Member,
     row: &mut Controller,
-    mut lengths: [Option<u16>; 7],
     message: Message<E>,
     length: u16,
 ) -> Result<Option<Message<E>>, Fault>
-    requires { message.sender.number < 7 }
-    ensures result { result ≡ (took_acknowledgement me.number row.old message lengths length).result }
-    ensures row { row.new ≡ (took_acknowledgement me.number row.old message lengths length).row }
+    requires { (message.sender.number < 7) × (is_primary row.old ≡ true) }
+    ensures result { result ≡ (took_acknowledgement me.number row.old message (lengths_of row.old.status) length).result }
+    ensures row { row.new ≡ (took_acknowledgement me.number row.old message (lengths_of row.old.status) length).row }
 {
     let from = message.sender.number as usize;
     ask(me, message.view == row.views.current, Refusal::WrongView)?;
     ask(me, length <= row.length, Refusal::DoesNotFit)?;
-    lengths[from] = lengths[from].max(Some(length));
-    row.status = Status::Primary { lengths };
+    if let Status::Primary { lengths } = &mut row.status {
+        lengths[from] = lengths[from].max(Some(length));
+    }
     Ok(None)
 }
 
@@ -215,9 +227,7 @@ fn take<E: Copy, C: Cabinet>(
     match (row.status, message.body) {
         (Status::Down, _) => Err(refused(me, Refusal::WrongPower)),
         (_, Body::Invitation) => take_invitation(me, row, cab, message, room),
-        (Status::Manager { answers }, Body::Answer { reply }) => take_answer(
-            me, row, answers, message, reply,
-        ),
+        (Status::Manager { .. }, Body::Answer { reply }) => take_answer(me, row, message, reply),
         (Status::Waiting, Body::Form) => take_form(me, row, cab, message),
         // two arms: the borrow checker covers neither an or-pattern nor a guard beside a field of type E
         (Status::Backup, Body::Entry { place, entry }) => take_entry(
@@ -227,14 +237,14 @@ fn take<E: Copy, C: Cabinet>(
             me, row, book, message, place, entry, room,
         ),
         (Status::Backup, Body::Acknowledgement { .. }) => Err(refused(me, Refusal::NotPrimary)),
-        (Status::Primary { lengths }, Body::Acknowledgement { length }) => take_acknowledgement(
-            me, row, lengths, message, length,
+        (Status::Primary { .. }, Body::Acknowledgement { length }) => take_acknowledgement(
+            me, row, message, length,
         ),
         _ => Err(refused(me, Refusal::WrongStatus)),
     }
 }
 
-// A message at the controller that it is addressed to. What is to be sent in return comes back.
+/// A message at the controller that it is addressed to. What is to be sent in return comes back.
 pub fn deliver<E: Copy, C: Cabinet>(
     me: Member,
     row: &mut Controller,

@@ -1,4 +1,4 @@
-// Why a controller's step was refused.
+//! Why a controller's step was refused.
 ghost use Rattle.std.specs.Prelude.{◌≡◌};
 ghost use Rattle.controller.specs.Faults.{worn_fault};
 
@@ -7,19 +7,19 @@ use numbers::{ControllerNumber, Refusal};
 
 #[derive(Clone, Copy, PartialEq, Eq, Debug)]
 pub enum Fault {
-    // the cell has no writes left, and whose it is: of one number, but two things to be told
+    /// the cell has no writes left, and whose it is: of one number, but two things to be told
     Worn {
         cell: u16,
         controller: ControllerNumber,
     },
-    // the question that was answered no, and the acting controller
+    /// the question that was answered no, and the acting controller
     Refused {
         refusal: Refusal,
         controller: ControllerNumber,
     },
 }
 
-// The cabinet's fault gains the controller, whose number is its cell's.
+/// The cabinet's fault gains the controller, whose number is its cell's.
 impl From<Worn> for Fault {
     ghost from_gives = { λ w f. f ≡ worn_fault w.cell };
 

@@ -1,4 +1,4 @@
-// A waiting controller joins the view of an active primary.
+//! A waiting controller joins the view of an active primary.
 ghost use Rattle.std.specs.Prelude.{◌≡◌};
 ghost use Rattle.controller.specs.Joins.{followed, joined, may_join};
 
@@ -12,9 +12,9 @@ use entries::{Body, Entry, Message};
 use forming::Member;
 use numbers::{ControllerNumber, Refusal, Row, View};
 
-// Follows the primary of a view, whose entries are the log: puts the view as current and
-// acknowledges the log's length. Taking the log over into the book is the caller's business, in
-// whose memory both lie.
+/// Follows the primary of a view, whose entries are the log: puts the view as current and
+/// acknowledges the log's length. Taking the log over into the book is the caller's business, in
+/// whose memory both lie.
 pub fn follow<E: Copy, C: Cabinet>(
     me: Member,
     row: &mut Controller,
@@ -69,8 +69,8 @@ fn may_join(me: Member, row: &Controller, led: &Controller) -> Result<(), Fault>
     ask(me, led.is_primary(), Refusal::NotPrimary)
 }
 
-// Joins the view of the controller `leader`, whose record and book are lent for reading. Where it
-// is taken, the caller takes over the leader's entries in use.
+/// Joins the view of the controller `leader`, whose record and book are lent for reading. Where it
+/// is taken, the caller takes over the leader's entries in use.
 pub fn join<E: Copy, C: Cabinet>(
     me: Member,
     row: &mut Controller,

@@ -1,8 +1,8 @@
-// One controller's behaviour: every step as a function of its own record, cell and book and of
-// the message or step at hand, and of nothing else. A step says what is to be sent; sending it is
-// the caller's business, who says beforehand whether there is room for a message. The member, the
-// record, the cabinet and the book stay parameters of their own: a signature then shows which of
-// them a step may change, and those that only read look like the rest.
+//! One controller's behaviour: every step as a function of its own record, cell and book and of
+//! the message or step at hand, and of nothing else. A step says what is to be sent; sending it is
+//! the caller's business, who says beforehand whether there is room for a message. The member, the
+//! record, the cabinet and the book stay parameters of their own: a signature then shows which of
+//! them a step may change, and those that only read look like the rest.
 #![tactic(auto)]
 
 mod books;

@@ -1,4 +1,4 @@
-// A power cut, and the recovery from it.
+//! A power cut, and the recovery from it.
 ghost use Rattle.std.specs.Prelude.{◌≡◌};
 ghost use Rattle.controller.specs.Power.{crashed, recovered};
 
@@ -9,7 +9,7 @@ use cabinet::Cabinet;
 use forming::Member;
 use numbers::Refusal;
 
-// The controller goes down and remembers nothing but its cell.
+/// The controller goes down and remembers nothing but its cell.
 pub fn crash(me: Member, row: &mut Controller) -> Result<(), Fault>
     ensures result { result ≡ (crashed me.number row.old).result }
     ensures row { row.new ≡ (crashed me.number row.old).row }
@@ -19,7 +19,7 @@ pub fn crash(me: Member, row: &mut Controller) -> Result<(), Fault>
     Ok(())
 }
 
-// The controller comes back: it waits with the views of its cell, and its book is not complete.
+/// The controller comes back: it waits with the views of its cell, and its book is not complete.
 pub fn recover<C: Cabinet>(me: Member, row: &mut Controller, cab: &C) -> Result<(), Fault>
     ensures result { result ≡ (recovered (C.cells cab.now).list me.number row.old).result }
     ensures row { row.new ≡ (recovered (C.cells cab.now).list me.number row.old).row }

@@ -1,5 +1,5 @@
-// What a primary does with its book: take a change, pass an entry on; and what any active
-// controller answers from it.
+//! What a primary does with its book: take a change, pass an entry on; and what any active
+//! controller answers from it.
 ghost use Rattle.std.specs.Prelude.{◌≡◌, [], Ok, Err};
 ghost use Rattle.controller.specs.Primaries.{changed, looked_up, passed, primary_asks};
 ghost use Rattle.controller.specs.Questions.{asks, refusal_at};
@@ -13,7 +13,7 @@ use entries::{Answer, Body, Entry, Kind, Message, Question};
 use forming::Member;
 use numbers::{ControllerNumber, Place, Refusal, Stamp};
 
-// The questions of every step of a primary.
+/// The questions of every step of a primary.
 pub fn ask_primary(me: Member, row: &Controller) -> Result<(), Fault>
     ensures { result ≡ asks (primary_asks row.now []) (λ k. Err (refusal_at me.number k)) (Ok tt) }
 {
@@ -22,7 +22,7 @@ pub fn ask_primary(me: Member, row: &Controller) -> Result<(), Fault>
     ask(me, row.is_primary(), Refusal::NotPrimary)
 }
 
-// Appends a change in the current view, and hands out its slip.
+/// Appends a change in the current view, and hands out its slip.
 pub fn change<E: Copy>(
     me: Member,
     row: &mut Controller,
@@ -41,7 +41,7 @@ pub fn change<E: Copy>(
     Ok(Slip::of(Stamp { view, place }))
 }
 
-// The entry at a place is to go to another controller.
+/// The entry at a place is to go to another controller.
 pub fn pass<E: Copy>(
     me: Member,
     row: &Controller,
@@ -63,7 +63,7 @@ pub fn pass<E: Copy>(
     })
 }
 
-// What the book answers to a question.
+/// What the book answers to a question.
 pub fn lookup<E: Kind>(
     me: Member,
     row: &Controller,

@@ -1,4 +1,4 @@
-// Asking a question: a no ends the step with its refusal.
+//! Asking a question: a no ends the step with its refusal.
 ghost use Rattle.std.specs.Prelude.{◌≡◌, true, false, MatchResult};
 ghost use Rattle.controller.specs.declared.faults.Fault.TheVariants.{Refused};
 
@@ -6,7 +6,7 @@ use crate::faults::Fault;
 use forming::Member;
 use numbers::Refusal;
 
-// The fault of a controller whose step was refused.
+/// The fault of a controller whose step was refused.
 pub fn refused(me: Member, refusal: Refusal) -> Fault
     ensures { result ≡ Refused refusal me.number }
 {

@@ -1,4 +1,4 @@
-// A controller's record.
+//! A controller's record.
 ghost use Rattle.std.specs.Prelude.{◌≡◌};
 ghost use Rattle.controller.specs.Records.{is_up, is_waiting, is_manager, is_active, is_primary, down_record, first_record, only as only_of};
 
@@ -6,20 +6,20 @@ use entries::Reply;
 use forming::Member;
 use numbers::{ControllerNumber, Row};
 
-// What a controller is at, with what belongs to it. Active is Backup or Primary.
+/// What a controller is at, with what belongs to it. Active is Backup or Primary.
 #[derive(Clone, Copy, PartialEq, Eq, Debug)]
 pub enum Status {
     Down,
     Waiting,
-    // it called a view: the answers counted so far, its own among them
+    /// it called a view: the answers counted so far, its own among them
     Manager { answers: [Option<Reply>; 7] },
     Backup,
-    // the length that each controller has acknowledged in this view, its own among them
+    /// the length that each controller has acknowledged in this view, its own among them
     Primary { lengths: [Option<u16>; 7] },
 }
 
-// The views are those of the controller's cell while it is up. `primary` is that of the current view.
-// `complete` is a flag, and the length no `Option`: the rules keep both, and name both of a crash.
+/// The views are those of the controller's cell while it is up. `primary` is that of the current view.
+/// `complete` is a flag, and the length no `Option`: the rules keep both, and name both of a crash.
 #[derive(Clone, Copy, PartialEq, Eq, Debug)]
 pub struct Controller {
     pub status: Status,
@@ -29,7 +29,7 @@ pub struct Controller {
     pub primary: ControllerNumber,
 }
 
-// A table of seven with nothing in it but x, at the member's own number.
+/// A table of seven with nothing in it but x, at the member's own number.
 pub fn only<A: Copy>(me: Member, x: A) -> [Option<A>; 7]
     ensures { result ≡ only_of me.number x }
 {
@@ -39,7 +39,7 @@ pub fn only<A: Copy>(me: Member, x: A) -> [Option<A>; 7]
 }
 
 impl Controller {
-    // A controller that is down: it remembers nothing.
+    /// A controller that is down: it remembers nothing.
     pub fn down() -> Controller
         ensures { result ≡ down_record }
     {
@@ -52,7 +52,7 @@ impl Controller {
         }
     }
 
-    // A controller at the start: active in view (0, 0), whose primary is controller 0.
+    /// A controller at the start: active in view (0, 0), whose primary is controller 0.
     pub fn first(number: ControllerNumber) -> Controller
         ensures { result ≡ first_record number }
     {
@@ -94,7 +94,7 @@ impl Controller {
         matches!(self.status, Status::Backup | Status::Primary { .. })
     }
 
-    // Whether it is active and the primary of its view.
+    /// Whether it is active and the primary of its view.
     pub fn is_primary(&self) -> bool
         ensures { result ≡ is_primary self.now }
     {

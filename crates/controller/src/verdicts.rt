@@ -1,4 +1,4 @@
-// What becomes of a slip: confirmed, lost or waiting.
+//! What becomes of a slip: confirmed, lost or waiting.
 ghost use Rattle.std.specs.Prelude.{◌≡◌, ℕ, Bool, Option};
 ghost use Rattle.std.specs.Fn.{FnReturnsAt};
 ghost use Rattle.forming.specs.Counting.{Answers};
@@ -40,7 +40,7 @@ fn holds<E: Copy>(row: &Controller, book: &[Entry<E>], stamp: Stamp) -> bool
     entry_at(row, book, stamp.place).is_some_and(|entry| entry.view == stamp.view)
 }
 
-// The verdict on a stamp.
+/// The verdict on a stamp.
 pub fn judge<E: Copy>(
     me: Member,
     row: &Controller,
@@ -72,7 +72,7 @@ fn weigh<E: Copy>(me: Member, row: &Controller, book: &[Entry<E>], stamp: Stamp)
     }
 }
 
-// Settles a slip. It is spent where it is confirmed or lost; a refusal hands it back, and so does waiting.
+/// Settles a slip. It is spent where it is confirmed or lost; a refusal hands it back, and so does waiting.
 pub fn settle<E: Copy>(
     me: Member,
     row: &Controller,

@@ -1,4 +1,4 @@
-// Calling a view, inviting to it and forming it.
+//! Calling a view, inviting to it and forming it.
 ghost use Rattle.std.specs.Prelude.{◌≡◌, true, false, MatchResult};
 ghost use Rattle.numbers.specs.Rows.{row_ok};
 ghost use Rattle.cabinet.specs.Cells.{is_worn};
@@ -13,8 +13,8 @@ use entries::{Body, Message, Reply};
 use forming::{Member, choice_of_first};
 use numbers::{CellRecord, ControllerNumber, Refusal, Row, View, ViewCount};
 
-// Puts two views into the controller's own cell. A worn cell is refused before views that do not
-// keep the form of a record.
+/// Puts two views into the controller's own cell. A worn cell is refused before views that do not
+/// keep the form of a record.
 pub fn put_views<C: Cabinet>(me: Member, cab: &mut C, views: Row) -> Result<(), Fault>
     ensures result { MatchResult result (λ _. (is_worn (C.cells cab.old).list me.number.number ≡ false) × (row_ok views ≡ true)) (λ e. put_fails (C.cells cab.old).list me.number views e) }
     ensures cells { (C.cells cab.new).list ≡ put_after (C.cells cab.old).list me.number views }
@@ -27,7 +27,7 @@ pub fn put_views<C: Cabinet>(me: Member, cab: &mut C, views: Row) -> Result<(), 
     }
 }
 
-// What the controller says of itself to a call.
+/// What the controller says of itself to a call.
 pub fn reply(me: Member, row: &Controller) -> Reply
     ensures { result ≡ reply_of me.number row.now }
 {
@@ -43,7 +43,7 @@ pub fn reply(me: Member, row: &Controller) -> Reply
     }
 }
 
-// Calls the next view of this controller: promises it, and manages it with its own answer counted.
+/// Calls the next view of this controller: promises it, and manages it with its own answer counted.
 pub fn call<C: Cabinet>(me: Member, row: &mut Controller, cab: &mut C) -> Result<(), Fault>
     ensures result { result ≡ (called (C.cells cab.old).list me.number row.old).result }
     ensures row { row.new ≡ (called (C.cells cab.old).list me.number row.old).row }
@@ -67,7 +67,7 @@ pub fn call<C: Cabinet>(me: Member, row: &mut Controller, cab: &mut C) -> Result
     Ok(())
 }
 
-// Invites a controller to the view that this one manages.
+/// Invites a controller to the view that this one manages.
 pub fn invite<E>(
     me: Member,
     row: &Controller,
@@ -99,7 +99,7 @@ fn chosen(me: Member, row: &Controller) -> Option<ControllerNumber>
     Some(ControllerNumber { number })
 }
 
-// Forms the view by the rules: the chosen controller is to open it, and this one waits.
+/// Forms the view by the rules: the chosen controller is to open it, and this one waits.
 pub fn form<E>(me: Member, row: &mut Controller, room: bool) -> Result<Message<E>, Fault>
     ensures result { result ≡ (formed me.n me.number row.old room).result }
     ensures row { row.new ≡ (formed {E = E} me.n me.number row.old room).row }

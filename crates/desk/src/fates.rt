@@ -1,4 +1,4 @@
-// What became of the changes that were handed out.
+//! What became of the changes that were handed out.
 ghost use Rattle.std.specs.Prelude.{◌≡◌, ◌-◌};
 
 use controller::Verdict;
@@ -25,15 +25,15 @@ impl Fates {
         }
     }
 
-    // A change is handed out; it waits. No stamp is handed out twice: if one were, both changes would
-    // be counted, and only one could be settled.
+    /// A change is handed out; it waits. No stamp is handed out twice: if one were, both changes would
+    /// be counted, and only one could be settled.
     pub fn hand_out(&mut self, stamp: Stamp) -> Result<(), AllocError> {
         self.unsettled.insert(stamp)?;
         self.handed = self.handed.saturating_add(1);
         Ok(())
     }
 
-    // A slip was settled. One that no change handed out, or that was settled before, does not count.
+    /// A slip was settled. One that no change handed out, or that was settled before, does not count.
     pub fn settle(&mut self, stamp: Stamp, verdict: Verdict) {
         match verdict {
             Verdict::Confirmed if self.unsettled.remove(&stamp) => {
@@ -46,7 +46,7 @@ impl Fates {
         }
     }
 
-    // How many changes are neither confirmed nor lost.
+    /// How many changes are neither confirmed nor lost.
     pub fn waiting(&self) -> u64
         ensures { result ≡ self.now.handed - self.now.confirmed - self.now.lost }
     {

@@ -1,20 +1,20 @@
-// What differs between the kinds of change: how a script writes one, and how a report does.
+//! What differs between the kinds of change: how a script writes one, and how a report does.
 ghost use Rattle.std.specs.Prelude.{◌≡◌, [], ◌∷◌, if◌then◌else◌};
 
 use crate::words::Words;
 use entries::{CardChange, HoursChange, Kind};
 
 pub trait Written: Kind {
-    // A change for memory that holds none yet.
+    /// A change for memory that holds none yet.
     const BLANK: Self;
 
-    // A line with a change.
+    /// A line with a change.
     const FORM: &'static str;
 
-    // The change that the next words say.
+    /// The change that the next words say.
     fn read(words: &mut Words) -> Option<Self>;
 
-    // The three numbers of a change.
+    /// The three numbers of a change.
     fn numbers(&self) -> [u16; 3];
 }
 

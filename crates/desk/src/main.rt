@@ -1,4 +1,4 @@
-// The desk: runs a script of steps on a site, and reports what came of each.
+//! The desk: runs a script of steps on a site, and reports what came of each.
 #![tactic(auto)]
 
 use cabinet::{Strip, Tray};

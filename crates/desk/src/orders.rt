@@ -1,18 +1,18 @@
-// What a line of a script says.
+//! What a line of a script says.
 use crate::kinds::Written;
 use crate::words::Words;
 use runs::Step;
 use thiserror::Error;
 
-// What was expected of a line, as a trouble says it.
+/// What was expected of a line, as a trouble says it.
 #[derive(Clone, Copy, Debug, Drop, Error)]
 pub enum Expected {
     #[error("{0}")]
     Words(&'static str),
-    // a line with one number
+    /// a line with one number
     #[error("{0}, with a number from 0 to 65535")]
     Number(&'static str),
-    // a line with more
+    /// a line with more
     #[error("{0}, with numbers from 0 to 65535")]
     Numbers(&'static str),
     #[error("a line of at most 65536 bytes")]
@@ -29,7 +29,7 @@ const STEP: Expected = Expected::Words(
 
 #[derive(Clone, Copy)]
 pub enum Store {
-    // the writes left of each cell
+    /// the writes left of each cell
     Tray { left: u16 },
     Strip { bytes: u16 },
 }
@@ -40,7 +40,7 @@ pub enum KindName {
     Hours,
 }
 
-// The line that makes the site.
+/// The line that makes the site.
 #[derive(Clone, Copy)]
 pub struct Setup {
     pub kind: KindName,
@@ -50,7 +50,7 @@ pub struct Setup {
     pub store: Store,
 }
 
-// Any other line that says something.
+/// Any other line that says something.
 #[derive(Drop)]
 pub enum Order<E> {
     Show,
@@ -114,16 +114,16 @@ fn controller_step<E: Written>(word: &str, words: &mut Words) -> Option<Step<E>>
     })
 }
 
-// What a line may say.
+/// What a line may say.
 pub trait Said: Drop + Sized {
-    // What it says by its first word and those after it.
+    /// What it says by its first word and those after it.
     fn after(word: &str, words: &mut Words) -> Option<Self>;
 
-    // The line that a first word begins.
+    /// The line that a first word begins.
     fn form(word: &str) -> Expected;
 }
 
-// The first line that says something.
+/// The first line that says something.
 impl Said for Setup {
     fn after(word: &str, words: &mut Words) -> Option<Setup> {
         if word != "site" {
@@ -143,7 +143,7 @@ impl Said for Setup {
     }
 }
 
-// Any later line.
+/// Any later line.
 impl<E: Written> Said for Order<E> {
     fn after(word: &str, words: &mut Words) -> Option<Order<E>> {
         let step = match word {
@@ -179,8 +179,8 @@ impl<E: Written> Said for Order<E> {
     }
 }
 
-// What a line says, by all of its words; none where it has no word. One that is no text has no first
-// word that anybody knows.
+/// What a line says, by all of its words; none where it has no word. One that is no text has no first
+/// word that anybody knows.
 pub fn read<T: Said>(text: Option<&str>) -> Result<Option<T>, Expected> {
     let Some(text) = text else {
         return Err(T::form(""));

@@ -1,4 +1,4 @@
-// What came of a step, as a line of the report.
+//! What came of a step, as a line of the report.
 use crate::spelling::Spelled;
 use crate::views::Dotted;
 use numbers::{ControllerNumber, Stamp};
@@ -6,7 +6,7 @@ use runs::{Outcome, Turn};
 use site::{Fault, Named};
 use std::fmt;
 
-// A line of the report.
+/// A line of the report.
 #[derive(Clone, Copy)]
 pub enum Line {
     Made,
@@ -20,14 +20,14 @@ pub enum Line {
     Formed {
         chosen: ControllerNumber,
     },
-    // a step's word, and one word more
+    /// a step's word, and one word more
     Taken {
         word: &'static str,
         how: &'static str,
     },
 }
 
-// The line of a turn that was run.
+/// The line of a turn that was run.
 impl<E: Copy> From<Turn<E>> for Line {
     fn from(turn: Turn<E>) -> Line {
         let word = turn.step.word();

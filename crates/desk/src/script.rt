@@ -1,4 +1,4 @@
-// The lines of a script, counted, without their ends and comments.
+//! The lines of a script, counted, without their ends and comments.
 use crate::orders;
 use crate::orders::{Expected, Said};
 use crate::troubles::Trouble;
@@ -25,7 +25,7 @@ impl<R: BufRead + Drop> Script<R> {
         }
     }
 
-    // The last line is not what was expected.
+    /// The last line is not what was expected.
     pub fn expected(&self, expected: Expected) -> Trouble {
         Trouble::Line {
             number: self.number,
@@ -52,7 +52,7 @@ impl<R: BufRead + Drop> Script<R> {
         Ok(Some(line))
     }
 
-    // What the next line says that says something; none at the end of the script.
+    /// What the next line says that says something; none at the end of the script.
     pub fn next<T: Said>(&mut self) -> Result<Option<T>, Trouble> {
         // an input may have no end, but a loop has one
         for _ in 0..u64::MAX {

@@ -1,4 +1,4 @@
-// Serving a script: its steps are gathered, run a buffer at a time, and reported.
+//! Serving a script: its steps are gathered, run a buffer at a time, and reported.
 use crate::cabinets::Shown;
 use crate::kinds::Written;
 use crate::memory::blanks;
@@ -17,7 +17,7 @@ use std::io::{BufRead, Write};
 // So many steps are gathered before they are run.
 const BUFFER: usize = 1_024;
 
-// A site with its memory and cabinet, the steps that are not run yet, and where reports go.
+/// A site with its memory and cabinet, the steps that are not run yet, and where reports go.
 #[derive(Drop)]
 pub struct Desk<'a, E, C, O> {
     // how to make the site, until that was tried
@@ -46,7 +46,7 @@ fn report_turns<E: Written, O: Write>(
 }
 
 impl<'a, E: Written, C: Shown, O: Write> Desk<'a, E, C, O> {
-    // A site that is refused whatever its memory gets none.
+    /// A site that is refused whatever its memory gets none.
     pub fn new(
         heap: Global,
         setup: Setup,
@@ -160,8 +160,8 @@ impl<'a, E: Written, C: Shown, O: Write> Desk<'a, E, C, O> {
     }
 }
 
-// Runs the lines that follow the site's, and states what happened. Where the script stops short, what
-// was gathered is run first.
+/// Runs the lines that follow the site's, and states what happened. Where the script stops short, what
+/// was gathered is run first.
 pub fn serve<E: Written, C: Shown, R: BufRead + Drop, O: Write>(
     mut desk: Desk<E, C, O>,
     script: &mut Script<R>,

@@ -1,4 +1,4 @@
-// The whole state of a site, a line for each record, cell, entry and message.
+//! The whole state of a site, a line for each record, cell, entry and message.
 use crate::cabinets::Shown;
 use crate::kinds::Written;
 use crate::report::Line;
@@ -209,7 +209,7 @@ fn show_pool<O: Write, E: Written>(
     Ok(())
 }
 
-// All of it; refused where the site is not made.
+/// All of it; refused where the site is not made.
 pub fn show<O: Write, E: Written, C: Shown>(
     out: &mut O,
     site: &Site,

@@ -1,4 +1,4 @@
-// The words of a report for what the library names.
+//! The words of a report for what the library names.
 use controller::{Status, Verdict};
 use entries::{Answer, Body, Reply};
 use runs::Step;
@@ -26,7 +26,7 @@ impl<E: Copy> Spelled for Step<E> {
     }
 }
 
-// The kind of a message.
+/// The kind of a message.
 impl<E: Copy> Spelled for Body<E> {
     fn word(&self) -> &'static str {
         match self {

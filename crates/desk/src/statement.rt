@@ -1,4 +1,4 @@
-// What the steps of a script amount to.
+//! What the steps of a script amount to.
 use crate::fates::Fates;
 use entries::{Answer, Body, Message, Question};
 use numbers::{ControllerNumber, View};
@@ -21,7 +21,7 @@ struct Heard {
     answer: Answer,
 }
 
-// What the steps so far amount to.
+/// What the steps so far amount to.
 #[derive(Drop)]
 pub struct Statement {
     taken: u64,
@@ -76,7 +76,7 @@ impl Statement {
         Ok(())
     }
 
-    // One more step was run.
+    /// One more step was run.
     pub fn note<E: Copy>(&mut self, turn: Turn<E>) -> Result<(), AllocError> {
         let Turn { step, outcome } = turn;
         match outcome {

@@ -1,4 +1,4 @@
-// Why the desk stopped.
+//! Why the desk stopped.
 use crate::orders::Expected;
 use std::alloc::AllocError;
 use std::io;
@@ -6,19 +6,19 @@ use thiserror::Error;
 
 #[derive(Debug, Drop, Error)]
 pub enum Trouble {
-    // the line of this number is none of those that were expected
+    /// the line of this number is none of those that were expected
     #[error("line {number}: expected {expected}")]
     Line { number: u64, expected: Expected },
-    // the program was given more than the name of a script
+    /// the program was given more than the name of a script
     #[error("desk: expected at most one argument, a script")]
     Arguments,
-    // the script of this name can't be read
+    /// the script of this name can't be read
     #[error("desk: {name}: {error}")]
     Script { name: String, error: io::Error },
-    // the script can't be read; it comes from standard input, unless `in_file` names a file
+    /// the script can't be read; it comes from standard input, unless `in_file` names a file
     #[error("desk: standard input: {0}")]
     Reading(io::Error),
-    // the report can't be written, or the arguments not read
+    /// the report can't be written, or the arguments not read
     #[error("desk: {0}")]
     Writing(#[from] io::Error),
     #[error("desk: out of memory")]
@@ -26,7 +26,7 @@ pub enum Trouble {
 }
 
 impl Trouble {
-    // The same trouble, with a script from the file of this name.
+    /// The same trouble, with a script from the file of this name.
     pub fn in_file(self, name: String) -> Trouble {
         match self {
             Trouble::Reading(error) => Trouble::Script { name, error },

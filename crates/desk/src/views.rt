@@ -1,8 +1,8 @@
-// A view as reports write it.
+//! A view as reports write it.
 use numbers::View;
 use std::fmt;
 
-// COUNT.CONTROLLER
+/// COUNT.CONTROLLER
 #[derive(Clone, Copy)]
 pub struct Dotted(pub View);
 

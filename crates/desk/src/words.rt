@@ -1,11 +1,11 @@
-// A line as words, and the numbers that they say.
+//! A line as words, and the numbers that they say.
 ghost use Rattle.desk.specs.Digits.{Reads};
 
 use entries::Question;
 use numbers::{ControllerNumber, Place, Stamp, View};
 use std::str::Split;
 
-// The words of a line that are not read yet. Spaces and tabs part them.
+/// The words of a line that are not read yet. Spaces and tabs part them.
 #[derive(Drop)]
 pub struct Words<'a> {
     pieces: Split<'a, [char; 2]>,
@@ -28,7 +28,7 @@ impl<'a> Words<'a> {
         }
     }
 
-    // The next word; none where all are read.
+    /// The next word; none where all are read.
     pub fn word(&mut self) -> Option<&'a str> {
         self.pieces.find(|piece| !piece.is_empty())
     }
@@ -37,7 +37,7 @@ impl<'a> Words<'a> {
         number_of(self.word()?)
     }
 
-    // Any number: one out of range is for the step to refuse. So too at a place.
+    /// Any number: one out of range is for the step to refuse. So too at a place.
     pub fn controller(&mut self) -> Option<ControllerNumber> {
         let number = self.number()?;
         Some(ControllerNumber { number })
@@ -48,7 +48,7 @@ impl<'a> Words<'a> {
         Some(Place { number })
     }
 
-    // A view count, a controller and a place, whether in range or not.
+    /// A view count, a controller and a place, whether in range or not.
     pub fn stamp(&mut self) -> Option<Stamp> {
         let view = View::of(self.number()?, self.number()?);
         let place = self.place()?;
@@ -61,7 +61,7 @@ impl<'a> Words<'a> {
         Some(Question { first, second })
     }
 
-    // Whether all words are read.
+    /// Whether all words are read.
     pub fn is_done(&mut self) -> bool {
         self.word().is_none()
     }

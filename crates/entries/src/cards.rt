@@ -1,10 +1,10 @@
-// Card changes: a card given or withdrawn at a set of doors.
+//! Card changes: a card given or withdrawn at a set of doors.
 ghost use Rattle.entries.specs.Says.{card_says};
 ghost use Rattle.entries.specs.declared.kinds.Answer.TheVariants.{Red};
 
 use crate::kinds::{Answer, Kind, Question};
 
-// Bit d of `doors` is door d.
+/// Bit d of `doors` is door d.
 #[derive(Clone, Copy, PartialEq, Eq, Debug)]
 pub struct CardChange {
     pub card: u16,
@@ -12,7 +12,7 @@ pub struct CardChange {
     pub given: bool,
 }
 
-// The question is a card and a door.
+/// The question is a card and a door.
 impl Kind for CardChange {
     ghost says = { card_says };
 

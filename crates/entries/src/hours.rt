@@ -1,4 +1,4 @@
-// Hours changes: the minutes of the day at which a door is open.
+//! Hours changes: the minutes of the day at which a door is open.
 ghost use Rattle.entries.specs.Says.{hours_says};
 ghost use Rattle.entries.specs.declared.kinds.Answer.TheVariants.{Green};
 
@@ -11,7 +11,7 @@ pub struct HoursChange {
     pub shutting: u16,
 }
 
-// The question is a door and a minute.
+/// The question is a door and a minute.
 impl Kind for HoursChange {
     ghost says = { hours_says };
 

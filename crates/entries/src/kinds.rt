@@ -1,16 +1,16 @@
-// Kinds of change, by what they say to a question.
+//! Kinds of change, by what they say to a question.
 ghost use Rattle.std.specs.Prelude.{◌≡◌, Option};
 ghost use Rattle.entries.specs.declared.kinds.Answer.{Answer};
 ghost use Rattle.entries.specs.declared.kinds.Question.{Question};
 
-// What a door shows.
+/// What a door shows.
 #[derive(Clone, Copy, PartialEq, Eq, Debug)]
 pub enum Answer {
     Green,
     Red,
 }
 
-// A question of two numbers, whose meaning is the kind's: a card and a door, a door and a minute.
+/// A question of two numbers, whose meaning is the kind's: a card and a door, a door and a minute.
 #[derive(Clone, Copy, PartialEq, Eq, Debug)]
 pub struct Question {
     pub first: u16,

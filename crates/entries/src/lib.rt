@@ -1,4 +1,4 @@
-// Entries of any kind of change, the messages that carry them, and the rule of lookup.
+//! Entries of any kind of change, the messages that carry them, and the rule of lookup.
 #![tactic(auto)]
 
 mod book;

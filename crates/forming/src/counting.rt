@@ -1,11 +1,11 @@
-// Counting and searching a table by a test, which is a closure that may be called on anything: std's
-// searches, with contracts by the words that the rules use.
+//! Counting and searching a table by a test, which is a closure that may be called on anything: std's
+//! searches, with contracts by the words that the rules use.
 ghost use Rattle.std.specs.Prelude.{◌≡◌, ◌<◌, Bool, length, IfSome};
 ghost use Rattle.std.specs.Fn.{FnReturnsAt};
 ghost use Rattle.forming.specs.Counting.{Answers, count as count_of, every as every_of, some as some_of, first as first_of};
 
-// How many pass the test. A loop: behind the closure of a `filter` that calls `test` its answers were
-// not known, and a `filter` of the answers of `map(&test)` reads no plainer.
+/// How many pass the test. A loop: behind the closure of a `filter` that calls `test` its answers were
+/// not known, and a `filter` of the answers of `map(&test)` reads no plainer.
 pub fn count<A, F: Fn(&A) -> bool>(xs: &[A], test: F) -> usize
     requires { F.IsAlwaysCallable test }
     ensures { (passes : A → Bool) → Answers (FnReturnsAt F.Fn test) passes → result ≡ count_of passes xs.now }
@@ -19,7 +19,7 @@ pub fn count<A, F: Fn(&A) -> bool>(xs: &[A], test: F) -> usize
     n
 }
 
-// Whether some one passes the test.
+/// Whether some one passes the test.
 pub fn some<A, F: Fn(&A) -> bool>(xs: &[A], test: F) -> bool
     requires { F.IsAlwaysCallable test }
     ensures { (passes : A → Bool) → Answers (FnReturnsAt F.Fn test) passes → result ≡ some_of passes xs.now }
@@ -27,7 +27,7 @@ pub fn some<A, F: Fn(&A) -> bool>(xs: &[A], test: F) -> bool
     xs.iter().any(&test)
 }
 
-// Whether every one passes the test.
+/// Whether every one passes the test.
 pub fn every<A, F: Fn(&A) -> bool>(xs: &[A], test: F) -> bool
     requires { F.IsAlwaysCallable test }
     ensures { (passes : A → Bool) → Answers (FnReturnsAt F.Fn test) passes → result ≡ every_of passes xs.now }
@@ -35,7 +35,7 @@ pub fn every<A, F: Fn(&A) -> bool>(xs: &[A], test: F) -> bool
     xs.iter().all(&test)
 }
 
-// The number of the first that passes the test.
+/// The number of the first that passes the test.
 pub fn first<A, F: Fn(&A) -> bool>(xs: &[A], test: F) -> Option<usize>
     requires { F.IsAlwaysCallable test }
     ensures value { (passes : A → Bool) → Answers (FnReturnsAt F.Fn test) passes → result ≡ first_of passes xs.now }

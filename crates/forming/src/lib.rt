@@ -1,4 +1,4 @@
-// Forming a view: the members of a site, counting among them, and the rules that choose the new primary.
+//! Forming a view: the members of a site, counting among them, and the rules that choose the new primary.
 #![tactic(auto)]
 
 mod counting;

@@ -1,10 +1,10 @@
-// A member: a controller number that is below n, where n is at most 7.
+//! A member: a controller number that is below n, where n is at most 7.
 ghost use Rattle.std.specs.Prelude.{◌≡◌, ◌<◌, ◌≤◌, true, false, take, MatchResult};
 ghost use Rattle.numbers.specs.Refusals.{refusal};
 
 use numbers::{ControllerNumber, Refusal};
 
-// Whoever has a member may rely on its number without a test.
+/// Whoever has a member may rely on its number without a test.
 #[derive(Clone, Copy, PartialEq, Eq, Debug)]
 pub struct Member {
     number: ControllerNumber,
@@ -16,7 +16,7 @@ pub struct Member {
 impl Member {
     ghost use Rattle.forming.specs.Members.{is_member};
 
-    // The controller of that number in a site of n; refused where the number is not below n.
+    /// The controller of that number in a site of n; refused where the number is not below n.
     pub fn new(number: ControllerNumber, n: u16) -> Result<Member, Refusal>
         ensures { MatchResult result (λ m. (is_member n number ≡ true) × ((m.number ≡ number) × (m.n ≡ n))) (λ e. (is_member n number ≡ false) × (e ≡ refusal 2)) }
     {
@@ -32,7 +32,7 @@ impl Member {
         self.number
     }
 
-    // How many controllers the site has.
+    /// How many controllers the site has.
     pub fn n(self) -> u16
         ensures value { result ≡ self.n }
         ensures few { result ≤ 7 }
@@ -40,14 +40,14 @@ impl Member {
         self.n
     }
 
-    // The first n of a table of seven, which are those of the site's controllers.
+    /// The first n of a table of seven, which are those of the site's controllers.
     pub fn of_site<A>(self, table: &[A; 7]) -> &[A]
         ensures { result.now ≡ take self.n table.now }
     {
         &table[..self.n as usize]
     }
 
-    // The number as an index into a table of seven.
+    /// The number as an index into a table of seven.
     pub fn index(self) -> usize
         ensures value { result ≡ self.number.number }
         ensures few { result < 7 }

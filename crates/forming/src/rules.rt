@@ -1,5 +1,5 @@
-// The rules by which a manager forms a view from the answers to its call. The answers, n and a view
-// stay parameters, as the definitions take them: a struct of them would say no more.
+//! The rules by which a manager forms a view from the answers to its call. The answers, n and a view
+//! stay parameters, as the definitions take them: a struct of them would say no more.
 ghost use Rattle.std.specs.Prelude.{◌≡◌, ◌<◌, ◌≤◌, length, take, IfSome, nat_le};
 ghost use Rattle.numbers.specs.Majorities.{majority_of};
 ghost use Rattle.forming.specs.Counting.{count as count_of, every as every_of, some as some_of};
@@ -122,8 +122,8 @@ fn allowed(n: u16, answers: &[Option<Reply>], newest: View) -> bool
     rule_1(n, answers) || rule_2(answers, newest) || rule_3(answers, newest)
 }
 
-// The controller that becomes primary of the view, or none where no rule allows it. The answers
-// are those of controllers 0 to n - 1.
+/// The controller that becomes primary of the view, or none where no rule allows it. The answers
+/// are those of controllers 0 to n - 1.
 pub fn choice(n: u16, answers: &[Option<Reply>]) -> Option<usize>
     ensures value { result ≡ choice_of answers.now n }
     ensures rule { ByRules answers.now n result }
@@ -140,7 +140,7 @@ pub fn choice(n: u16, answers: &[Option<Reply>]) -> Option<usize>
     }
 }
 
-// The choice among the first n of a manager's table.
+/// The choice among the first n of a manager's table.
 pub fn choice_of_first(me: Member, answers: [Option<Reply>; 7]) -> Option<usize>
     ensures value { result ≡ choice_of (take me.n answers) me.n }
     ensures within { IfSome result (λ c. c < 7) }

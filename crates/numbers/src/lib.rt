@@ -1,4 +1,4 @@
-// Numbers and views: the lowest layer. Each kind of number has a type of its own.
+//! Numbers and views: the lowest layer. Each kind of number has a type of its own.
 #![tactic(auto)]
 
 mod majorities;

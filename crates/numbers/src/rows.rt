@@ -1,4 +1,4 @@
-// Rows: the two views of a cell record as a table keeps them, with any numbers.
+//! Rows: the two views of a cell record as a table keeps them, with any numbers.
 use crate::views::View;
 
 #[derive(Clone, Copy, PartialEq, Eq, Debug)]
@@ -8,7 +8,7 @@ pub struct Row {
 }
 
 impl Row {
-    // Twice the view (0, 0).
+    /// Twice the view (0, 0).
     pub const ZERO: Row = Row {
         current: View::ZERO,
         promised: View::ZERO,

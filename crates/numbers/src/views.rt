@@ -1,38 +1,38 @@
-// Places, view counts, controller numbers, views and stamps. Their fields are public, since
-// memory that a caller lends may hold any numbers; `try_from` and `new` make only what keeps its
-// range.
+//! Places, view counts, controller numbers, views and stamps. Their fields are public, since
+//! memory that a caller lends may hold any numbers; `try_from` and `new` make only what keeps its
+//! range.
 ghost use Rattle.std.specs.Prelude.{◌≡◌, if◌then◌else◌, ◌&&◌, nat_le, Ok, Err};
 ghost use Rattle.numbers.specs.Refusals.{refusal};
 
 use crate::refusals::Refusal;
 
-// A position in a book, from 1 to 65,535.
+/// A position in a book, from 1 to 65,535.
 #[derive(Clone, Copy, PartialEq, Eq, PartialOrd, Ord, Debug)]
 pub struct Place {
     pub number: u16,
 }
 
-// The count of a view, from 0 to 16,383.
+/// The count of a view, from 0 to 16,383.
 #[derive(Clone, Copy, PartialEq, Eq, PartialOrd, Ord, Debug)]
 pub struct ViewCount {
     pub number: u16,
 }
 
-// The number of a controller, from 0 to 6.
+/// The number of a controller, from 0 to 6.
 #[derive(Clone, Copy, PartialEq, Eq, PartialOrd, Ord, Debug)]
 pub struct ControllerNumber {
     pub number: u16,
 }
 
-// A view: one configuration of the site, with one primary. The later view has the larger count
-// or, of equal counts, the larger controller.
+/// A view: one configuration of the site, with one primary. The later view has the larger count
+/// or, of equal counts, the larger controller.
 #[derive(Clone, Copy, PartialEq, Eq, PartialOrd, Ord, Debug)]
 pub struct View {
     pub count: ViewCount,
     pub controller: ControllerNumber,
 }
 
-// A stamp names one entry: the view that it was taken in, and its place.
+/// A stamp names one entry: the view that it was taken in, and its place.
 #[derive(Clone, Copy, PartialEq, Eq, PartialOrd, Ord, Debug)]
 pub struct Stamp {
     pub view: View,
@@ -52,7 +52,7 @@ fn within(number: u16, least: u16, most: u16) -> Result<u16, Refusal>
 
 // Three conversions, one for each type, since no macro writes a clause.
 
-// The place of that number; refused at 0.
+/// The place of that number; refused at 0.
 impl TryFrom<u16> for Place {
     ghost use Rattle.numbers.specs.Views.{place_of, place_ok};
 
@@ -66,7 +66,7 @@ impl TryFrom<u16> for Place {
     }
 }
 
-// The count of that number; refused above 16,383.
+/// The count of that number; refused above 16,383.
 impl TryFrom<u16> for ViewCount {
     ghost use Rattle.numbers.specs.Views.{count_of, count_ok};
 
@@ -80,7 +80,7 @@ impl TryFrom<u16> for ViewCount {
     }
 }
 
-// The controller of that number; refused above 6.
+/// The controller of that number; refused above 6.
 impl TryFrom<u16> for ControllerNumber {
     ghost use Rattle.numbers.specs.Views.{controller_of, controller_ok};
 
@@ -107,13 +107,13 @@ impl ControllerNumber {
 impl View {
     ghost use Rattle.numbers.specs.Views.{earlier, same_view, view_of, view_ok};
 
-    // The first view, which make opens.
+    /// The first view, which make opens.
     pub const ZERO: View = View {
         count: ViewCount { number: 0 },
         controller: ControllerNumber::ZERO,
     };
 
-    // The view of any two numbers, in range or not, as lent memory may hold it.
+    /// The view of any two numbers, in range or not, as lent memory may hold it.
     pub fn of(count: u16, controller: u16) -> View
         ensures { result ≡ view_of count controller }
     {
@@ -123,7 +123,7 @@ impl View {
         }
     }
 
-    // The view of a count and a controller number; refused where either is out of range.
+    /// The view of a count and a controller number; refused where either is out of range.
     pub fn new(count: u16, controller: u16) -> Result<View, Refusal>
         ensures { result ≡ (if view_ok (view_of count controller) then Ok (view_of count controller) else Err (refusal 17)) }
     {
@@ -132,21 +132,21 @@ impl View {
         Ok(View { count, controller })
     }
 
-    // Whether both numbers are in range.
+    /// Whether both numbers are in range.
     pub fn is_ok(self) -> bool
         ensures { result ≡ view_ok self }
     {
         self.count.number <= ViewCount::LAST && self.controller.number <= ControllerNumber::LAST
     }
 
-    // Whether this view is earlier than the other: `<`, in the rules' word.
+    /// Whether this view is earlier than the other: `<`, in the rules' word.
     pub fn is_earlier(self, other: View) -> bool
         ensures { result ≡ earlier self other }
     {
         self < other
     }
 
-    // Whether the two views are one: `==`.
+    /// Whether the two views are one: `==`.
     pub fn is_same(self, other: View) -> bool
         ensures { result ≡ same_view self other }
     {
@@ -157,7 +157,7 @@ impl View {
 impl Stamp {
     ghost use Rattle.numbers.specs.Views.{stamp_of, stamp_ok};
 
-    // The stamp of a view's two numbers and a place; refused where one is out of range.
+    /// The stamp of a view's two numbers and a place; refused where one is out of range.
     pub fn new(count: u16, controller: u16, place: u16) -> Result<Stamp, Refusal>
         ensures { result ≡ (if stamp_ok (stamp_of count controller place) then Ok (stamp_of count controller place) else Err (refusal 17)) }
     {

@@ -1,4 +1,4 @@
-// Confirmed changes survive every later view, of every run of the protocol.
+//! Confirmed changes survive every later view, of every run of the protocol.
 #![tactic(auto)]
 
 ghost use Rattle.protocol.specs.Guarantee.{Statement};

@@ -1,4 +1,4 @@
-// Runs: any list of steps of a site, and what is guaranteed of every one.
+//! Runs: any list of steps of a site, and what is guaranteed of every one.
 #![tactic(auto)]
 
 mod example_runs;

@@ -1,5 +1,5 @@
-// Steps are played on a site: one step, more steps, and a make with all that follows it.
-// Site, cabinet, books and pool go apart: they are the caller's memory, and contracts name each.
+//! Steps are played on a site: one step, more steps, and a make with all that follows it.
+//! Site, cabinet, books and pool go apart: they are the caller's memory, and contracts name each.
 ghost use Rattle.std.specs.Prelude.{◌≡◌, if◌then◌else◌, List, Ok, Err};
 ghost use Rattle.numbers.specs.Views.{controller_of, stamp_ok};
 ghost use Rattle.cabinet.specs.declared.cells.Cell.{Cell};
@@ -100,7 +100,7 @@ fn play<E: Kind, C: Cabinet>(
     }
 }
 
-// Plays more steps on a site, in order, and writes down what came of each.
+/// Plays more steps on a site, in order, and writes down what came of each.
 pub fn resume<E: Kind, C: Cabinet>(
     site: &mut Site,
     cab: &mut C,
@@ -117,7 +117,7 @@ pub fn resume<E: Kind, C: Cabinet>(
     }
 }
 
-// Makes a site and plays a list of steps on it. Where the make is refused, nothing is played.
+/// Makes a site and plays a list of steps on it. Where the make is refused, nothing is played.
 pub fn run<E: Kind, C: Cabinet>(
     site: &mut Site,
     cab: &mut C,

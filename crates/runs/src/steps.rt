@@ -1,4 +1,4 @@
-// The twelve steps as values, and what comes of them.
+//! The twelve steps as values, and what comes of them.
 ghost use Rattle.std.specs.Prelude.{◌≡◌, None};
 
 use controller::Verdict;
@@ -6,7 +6,7 @@ use entries::{Answer, Message, Question};
 use numbers::{ControllerNumber, Place, Stamp};
 use site::Fault;
 
-// An enum, and no list of closures: the guarantee is said over the list of steps, so they are values.
+/// An enum, and no list of closures: the guarantee is said over the list of steps, so they are values.
 #[derive(Clone, Copy, PartialEq, Eq, Debug)]
 pub enum Step<E> {
     Change {
@@ -35,7 +35,7 @@ pub enum Step<E> {
         i: ControllerNumber,
         primary: ControllerNumber,
     },
-    // of the slip that is taken up from these numbers
+    /// of the slip that is taken up from these numbers
     Settle {
         i: ControllerNumber,
         stamp: Stamp,
@@ -55,29 +55,29 @@ pub enum Step<E> {
     },
 }
 
-// What came of a step that was taken.
+/// What came of a step that was taken.
 #[derive(Clone, Copy, PartialEq, Eq, Debug)]
 pub enum Outcome<E> {
-    // the stamp of the slip that was handed out
+    /// the stamp of the slip that was handed out
     Changed { stamp: Stamp },
     Settled { verdict: Verdict },
     Answered { answer: Answer },
-    // the controller that is to open the view
+    /// the controller that is to open the view
     Formed { chosen: ControllerNumber },
-    // the message that was taken
+    /// the message that was taken
     Delivered { message: Message<E> },
-    // any other step
+    /// any other step
     Done,
 }
 
-// One step of a list, and what came of it: nothing before it was run.
+/// One step of a list, and what came of it: nothing before it was run.
 #[derive(Clone, Copy, PartialEq, Eq, Debug)]
 pub struct Turn<E> {
     pub step: Step<E>,
     pub outcome: Option<Result<Outcome<E>, Fault>>,
 }
 
-// A step that was not run yet.
+/// A step that was not run yet.
 impl<E> From<Step<E>> for Turn<E> {
     ghost from_gives = { λ step turn. turn ≡ record { step = step; outcome = None } };
 

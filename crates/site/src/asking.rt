@@ -1,4 +1,4 @@
-// The questions that the site asks itself, and the message that it sends.
+//! The questions that the site asks itself, and the message that it sends.
 ghost use Rattle.std.specs.Prelude.{◌≡◌, ◌+◌, ◌*◌, ◌<◌, ◌≤◌, true, length, MatchResult, nat_lt, slice_set};
 ghost use Rattle.site.specs.States.{IsMember, IsPair, MemberFails, PairFails, made_with, with_count};
 

@@ -1,4 +1,4 @@
-// Messages of the pool: one is delivered, or lost.
+//! Messages of the pool: one is delivered, or lost.
 ghost use Rattle.std.specs.Prelude.{◌≡◌, List, length, MatchResult};
 ghost use Rattle.cabinet.specs.declared.cells.Cell.{Cell};
 ghost use Rattle.site.specs.States.{HasMessage, MessageFails, done, state};
@@ -25,7 +25,7 @@ impl Site {
         Ok(())
     }
 
-    // Message j is taken by its addressee; it comes back. What it is answered with is sent.
+    /// Message j is taken by its addressee; it comes back. What it is answered with is sent.
     pub fn deliver<E: Copy, C: Cabinet>(
         &mut self,
         cab: &mut C,
@@ -51,7 +51,7 @@ impl Site {
         Ok(message)
     }
 
-    // Message j is lost: the last one takes its place.
+    /// Message j is lost: the last one takes its place.
     pub fn lose<E: Copy>(
         &mut self,
         books: &[Entry<E>],

@@ -1,4 +1,4 @@
-// Why a call of the site was refused, and what the fault names.
+//! Why a call of the site was refused, and what the fault names.
 ghost use Rattle.std.specs.Prelude.{◌≡◌};
 ghost use Rattle.site.specs.Faults.{site_fault, named_by};
 
@@ -7,16 +7,16 @@ use numbers::{ControllerNumber, Refusal};
 
 #[derive(Clone, Copy, PartialEq, Eq, Debug)]
 pub enum Named {
-    // the worn cell, and the controller that it belongs to
+    /// the worn cell, and the controller that it belongs to
     Cell {
         cell: u16,
         controller: ControllerNumber,
     },
-    // the message that was to be delivered or lost
+    /// the message that was to be delivered or lost
     Message {
         number: u16,
     },
-    // the acting controller
+    /// the acting controller
     Controller {
         number: ControllerNumber,
     },
@@ -29,7 +29,7 @@ pub struct Fault {
 }
 
 impl Fault {
-    // A refusal that names the acting controller.
+    /// A refusal that names the acting controller.
     pub fn at_controller(refusal: Refusal, number: ControllerNumber) -> Fault
         ensures { result ≡ record { refusal = refusal; named = Named.Controller number } }
     {
@@ -50,7 +50,7 @@ impl Fault {
     }
 }
 
-// A controller's fault gains the question's number; that of a worn cell is 15.
+/// A controller's fault gains the question's number; that of a worn cell is 15.
 impl From<ControllerFault> for Fault {
     ghost from_gives = { λ f r. r ≡ site_fault f };
 

@@ -1,4 +1,4 @@
-// A waiting controller joins the view of another, and takes over its book.
+//! A waiting controller joins the view of another, and takes over its book.
 ghost use Rattle.std.specs.Prelude.{◌≡◌, ◌⊎◌, ◌+◌, ◌≤◌, drop, length, min};
 ghost use lib.Seq.{paste};
 ghost use Rattle.site.specs.States.{done, state};
@@ -37,8 +37,8 @@ fn copy_apart<E: Copy>(books: &mut [Entry<E>], from: usize, to: usize, count: us
 }
 
 impl Site {
-    // Controller i, which waits, joins the view of another, an active primary: the entries in use
-    // of its book are copied over its own.
+    /// Controller i, which waits, joins the view of another, an active primary: the entries in use
+    /// of its book are copied over its own.
     pub fn join<E: Copy, C: Cabinet>(
         &mut self,
         cab: &mut C,

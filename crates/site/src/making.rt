@@ -1,4 +1,4 @@
-// Making a site.
+//! Making a site.
 ghost use Rattle.std.specs.Prelude.{◌≡◌, ◌≤◌, true};
 ghost use Rattle.site.specs.Making.{cells_zero, made_row as row_made, made_site, make_step, no_site, made_rows as rows_made, sizes_ok};
 ghost use Rattle.site.specs.States.{done, state};
@@ -48,7 +48,7 @@ fn sizes_are_ok(n: u16, cap: u16, books: usize, pool: usize) -> bool
 }
 
 impl Site {
-    // A site that is not made yet.
+    /// A site that is not made yet.
     pub fn new() -> Site
         ensures { result ≡ no_site }
     {
@@ -62,8 +62,8 @@ impl Site {
         }
     }
 
-    // Makes a site of n controllers with books of cap entries each, over this memory: all are active in
-    // view (0, 0) with controller 0 as primary, and the pool is empty.
+    /// Makes a site of n controllers with books of cap entries each, over this memory: all are active in
+    /// view (0, 0) with controller 0 as primary, and the pool is empty.
     pub fn make<E, C: Cabinet>(
         &mut self,
         cab: &C,

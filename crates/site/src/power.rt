@@ -1,4 +1,4 @@
-// A power cut, and the recovery from it.
+//! A power cut, and the recovery from it.
 ghost use Rattle.std.specs.Prelude.{◌≡◌, List};
 ghost use Rattle.cabinet.specs.declared.cells.Cell.{Cell};
 ghost use Rattle.site.specs.States.{done, state};
@@ -11,7 +11,7 @@ use entries::{Entry, Message};
 use numbers::ControllerNumber;
 
 impl Site {
-    // Controller i loses its power: it is down, and nothing is left of it but its cell.
+    /// Controller i loses its power: it is down, and nothing is left of it but its cell.
     pub fn crash<E>(
         &mut self,
         books: &[Entry<E>],
@@ -25,7 +25,7 @@ impl Site {
         Ok(())
     }
 
-    // Controller i comes back: it waits, with the views of its cell and no book.
+    /// Controller i comes back: it waits, with the views of its cell and no book.
     pub fn recover<E, C: Cabinet>(
         &mut self,
         cab: &C,

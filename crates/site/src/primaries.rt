@@ -1,4 +1,4 @@
-// What a primary does with its book, and what any active controller answers from it.
+//! What a primary does with its book, and what any active controller answers from it.
 ghost use Rattle.std.specs.Prelude.{◌≡◌, List};
 ghost use Rattle.cabinet.specs.declared.cells.Cell.{Cell};
 ghost use Rattle.site.specs.States.{done, state};
@@ -11,7 +11,7 @@ use entries::{Answer, Entry, Kind, Message, Question};
 use numbers::{ControllerNumber, Place};
 
 impl Site {
-    // Controller i, the primary, takes a change and hands out its slip.
+    /// Controller i, the primary, takes a change and hands out its slip.
     pub fn change<E: Copy>(
         &mut self,
         books: &mut [Entry<E>],
@@ -28,7 +28,7 @@ impl Site {
         Ok(slip)
     }
 
-    // Controller i, the primary, passes its entry at a place on to another.
+    /// Controller i, the primary, passes its entry at a place on to another.
     pub fn pass<E: Copy>(
         &mut self,
         books: &[Entry<E>],
@@ -48,8 +48,8 @@ impl Site {
         Ok(())
     }
 
-    // Controller i, the primary, settles a slip: it is spent where it is confirmed or lost, and
-    // else handed back.
+    /// Controller i, the primary, settles a slip: it is spent where it is confirmed or lost, and
+    /// else handed back.
     pub fn settle<E: Copy>(
         &self,
         books: &[Entry<E>],
@@ -69,7 +69,7 @@ impl Site {
         controller::settle(me, row, book, slip).map_err(|(fault, slip)| (fault.into(), slip))
     }
 
-    // What the book of controller i, which is active, answers to a question.
+    /// What the book of controller i, which is active, answers to a question.
     pub fn lookup<E: Kind>(
         &self,
         books: &[Entry<E>],

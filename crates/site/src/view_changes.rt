@@ -1,4 +1,4 @@
-// Calling a view, inviting to it and forming it.
+//! Calling a view, inviting to it and forming it.
 ghost use Rattle.std.specs.Prelude.{◌≡◌, List};
 ghost use Rattle.cabinet.specs.declared.cells.Cell.{Cell};
 ghost use Rattle.site.specs.States.{done, state};
@@ -11,7 +11,7 @@ use entries::{Entry, Message};
 use numbers::ControllerNumber;
 
 impl Site {
-    // Controller i calls its next view: it promises and manages it.
+    /// Controller i calls its next view: it promises and manages it.
     pub fn call<E, C: Cabinet>(
         &mut self,
         cab: &mut C,
@@ -26,7 +26,7 @@ impl Site {
         Ok(())
     }
 
-    // Controller i, a manager, invites another to its view.
+    /// Controller i, a manager, invites another to its view.
     pub fn invite<E: Copy>(
         &mut self,
         books: &[Entry<E>],
@@ -43,7 +43,7 @@ impl Site {
         Ok(())
     }
 
-    // Controller i, a manager, forms its view by the rules; the chosen controller comes back.
+    /// Controller i, a manager, forms its view by the rules; the chosen controller comes back.
     pub fn form<E: Copy>(
         &mut self,
         books: &[Entry<E>],

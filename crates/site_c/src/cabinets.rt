@@ -1,4 +1,4 @@
-// A list of puts into the cells of a cabinet, and a list of cells that are read.
+//! A list of puts into the cells of a cabinet, and a list of cells that are read.
 use crate::lookups::Pair;
 use cabinet::{Cabinet, Strip, Tray};
 use numbers::{CellRecord, Row, View};
@@ -33,14 +33,14 @@ fn read_all<C: Cabinet>(cab: &C, cells: &[u16]) -> u64 {
     sum
 }
 
-// On a tray: the puts, and then the cells. The puts that were taken, and the counts that were read.
+/// On a tray: the puts, and then the cells. The puts that were taken, and the counts that were read.
 #[unsafe(no_mangle)]
 pub extern "C" fn site_c_tray(puts: &[Pair], cells: &[u16]) -> u64 {
     let mut tray = Tray::new([65_535; 7]);
     put_all(&mut tray, puts).wrapping_add(read_all(&tray, cells))
 }
 
-// On a strip of these bytes, which is checked first.
+/// On a strip of these bytes, which is checked first.
 #[unsafe(no_mangle)]
 pub extern "C" fn site_c_strip(bytes: &mut [u8], puts: &[Pair], cells: &[u16]) -> u64 {
     let mut strip = Strip::new(bytes);

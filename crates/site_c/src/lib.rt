@@ -1,4 +1,4 @@
-// The library for a program in another language: each export does a whole list of calls, on memory of its own.
+//! The library for a program in another language: each export does a whole list of calls, on memory of its own.
 #![tactic(auto)]
 
 mod cabinets;

@@ -1,4 +1,4 @@
-// A list of questions put to one book; how many are answered with green.
+//! A list of questions put to one book; how many are answered with green.
 ghost use Rattle.std.specs.Prelude.{◌≡◌, ◌⊎◌, ◌≤◌, length, map, take};
 ghost use Rattle.forming.specs.Counting.{count as count_of};
 ghost use Rattle.entries.specs.Says.{card_says, hours_says};
@@ -10,7 +10,7 @@ use forming::count;
 use numbers::View;
 use std::alloc::{AllocError, Global};
 
-// An entry as five numbers: its view's two, and its change's three.
+/// An entry as five numbers: its view's two, and its change's three.
 #[repr(C)]
 #[derive(Clone, Copy)]
 pub struct Numbers {
@@ -21,7 +21,7 @@ pub struct Numbers {
     pub z: u16,
 }
 
-// Two numbers: a question, or a cell and the count of the view that is put there.
+/// Two numbers: a question, or a cell and the count of the view that is put there.
 #[repr(C)]
 #[derive(Clone, Copy)]
 pub struct Pair {
@@ -77,7 +77,7 @@ fn greens<E: Kind>(book: &[Entry<E>], questions: &[Pair]) -> usize
     count(questions, |asked| is_green(book, used, asked))
 }
 
-// Of a book of card changes. Where there is no memory for the book, none is green.
+/// Of a book of card changes. Where there is no memory for the book, none is green.
 #[unsafe(no_mangle)]
 pub extern "C" fn site_c_lookup_cards(heap: Global, rows: &[Numbers], questions: &[Pair]) -> usize
     ensures { (result ≡ 0) ⊎ (result ≡ count_of (answers_green card_says Red (take 65535 (map card_entry rows.now))) questions.now) }
@@ -89,7 +89,7 @@ pub extern "C" fn site_c_lookup_cards(heap: Global, rows: &[Numbers], questions:
     }
 }
 
-// Of a book of hours changes.
+/// Of a book of hours changes.
 #[unsafe(no_mangle)]
 pub extern "C" fn site_c_lookup_hours(heap: Global, rows: &[Numbers], questions: &[Pair]) -> usize
     ensures { (result ≡ 0) ⊎ (result ≡ count_of (answers_green hours_says Green (take 65535 (map hours_entry rows.now))) questions.now) }

@@ -1,4 +1,4 @@
-// Rounds of steps that are played on a site. Each tells how many messages were taken.
+//! Rounds of steps that are played on a site. Each tells how many messages were taken.
 use cabinet::Tray;
 use controller::{Settled, Slip};
 use entries::{CardChange, Entry, Message};
@@ -11,7 +11,7 @@ type Letter = Message<CardChange>;
 
 const ONE: ControllerNumber = ControllerNumber { number: 1 };
 
-// A card that is given at doors 0 and 3.
+/// A card that is given at doors 0 and 3.
 pub fn given(card: u16) -> CardChange {
     CardChange {
         card,
@@ -59,15 +59,15 @@ fn is_confirmed(settled: Result<Settled, (Fault, Slip)>) -> bool {
     }
 }
 
-// A change at controller 0 that goes to nobody.
+/// A change at controller 0 that goes to nobody.
 pub fn keep(site: &mut Site, books: &mut [Card], pool: &[Letter], card: u16) {
     if let Ok(slip) = site.change(books, pool, ControllerNumber::ZERO, given(card)) {
         slip.set_aside();
     }
 }
 
-// A change at controller 0 goes to all others, is acknowledged by all, and settled; the pool is
-// emptied. One more counts where the slip was confirmed.
+/// A change at controller 0 goes to all others, is acknowledged by all, and settled; the pool is
+/// emptied. One more counts where the slip was confirmed.
 pub fn confirm(
     site: &mut Site,
     tray: &mut Tray,
@@ -106,8 +106,8 @@ fn join_all(
     }
 }
 
-// Controller 1 calls a view, invites all others and gets their answers; the chosen one opens it, all
-// others join, and the pool is emptied.
+/// Controller 1 calls a view, invites all others and gets their answers; the chosen one opens it, all
+/// others join, and the pool is emptied.
 pub fn change_view(
     site: &mut Site,
     tray: &mut Tray,

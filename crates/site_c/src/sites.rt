@@ -1,4 +1,4 @@
-// Rounds of steps on a new site of card changes, and what they come to.
+//! Rounds of steps on a new site of card changes, and what they come to.
 use crate::rounds::{change_view, confirm, given, keep};
 use cabinet::Tray;
 use entries::{Body, CardChange, Entry, Message};
@@ -6,13 +6,13 @@ use numbers::{ControllerNumber, View};
 use site::Site;
 use std::alloc::{AllocError, Global};
 
-// What a list of rounds comes to. All are 0 where there is no memory for the books.
+/// What a list of rounds comes to. All are 0 where there is no memory for the books.
 #[repr(C)]
 #[derive(Clone, Copy)]
 pub struct Tally {
-    // the messages that were taken, and the slips that were confirmed
+    /// the messages that were taken, and the slips that were confirmed
     pub taken: u32,
-    // over all controllers: the lengths of their books, and the counts of their views
+    /// over all controllers: the lengths of their books, and the counts of their views
     pub lengths: u32,
     pub views: u32,
 }
@@ -53,7 +53,7 @@ fn tallied(site: &Site, taken: u32) -> Tally {
     tally
 }
 
-// So many changes, each passed to all others, acknowledged and settled.
+/// So many changes, each passed to all others, acknowledged and settled.
 #[unsafe(no_mangle)]
 pub extern "C" fn site_c_changes(heap: Global, n: u16, cap: u16, rounds: u16) -> Tally {
     let Ok(mut books) = books(heap, n, cap) else {
@@ -68,7 +68,7 @@ pub extern "C" fn site_c_changes(heap: Global, n: u16, cap: u16, rounds: u16) ->
     tallied(&site, taken)
 }
 
-// So many view changes, with so many changes in the primary's book from the start.
+/// So many view changes, with so many changes in the primary's book from the start.
 #[unsafe(no_mangle)]
 pub extern "C" fn site_c_view_changes(
     heap: Global,

@@ -1,5 +1,5 @@
-// The worked examples: a contract proves them of the written definitions, and the tests run the code on
-// them.
+//! The worked examples: a contract proves them of the written definitions, and the tests run the code on
+//! them.
 ghost use Rattle.std.specs.Prelude.{◌≡◌, true, false, [], ◌∷◌, Some, None};
 ghost use Rattle.numbers.specs.Majorities.{majority_of};
 ghost use Rattle.numbers.specs.Views.{earlier, view_of};

@@ -1,4 +1,4 @@
-// Tests of the layers, with expected values worked out by hand from the rules.
+//! Tests of the layers, with expected values worked out by hand from the rules.
 #![tactic(auto)]
 
 #[cfg(test)]

@@ -1,4 +1,4 @@
-// What card and hours changes say, and what a book answers.
+//! What card and hours changes say, and what a book answers.
 use entries::*;
 use numbers::View;
 

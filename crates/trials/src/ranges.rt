@@ -1,4 +1,4 @@
-// The bounds of every range, the order of views, and the number of every refusal.
+//! The bounds of every range, the order of views, and the number of every refusal.
 use crate::values::row;
 use numbers::*;
 

@@ -1,4 +1,4 @@
-// The examples of the README.
+//! The examples of the README.
 use cabinet::*;
 use controller::{Settled, Verdict};
 use entries::*;

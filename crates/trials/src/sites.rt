@@ -1,4 +1,4 @@
-// Calls of a site on memory made for them: what no script can reach.
+//! Calls of a site on memory made for them: what no script can reach.
 use crate::values;
 use crate::values::row;
 use cabinet::{Cabinet, Tray};

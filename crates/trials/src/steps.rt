@@ -1,4 +1,4 @@
-// One controller's steps, on records that were made for them.
+//! One controller's steps, on records that were made for them.
 use crate::values::row;
 use cabinet::*;
 use controller::{

@@ -1,4 +1,4 @@
-// Strips: sizes, slots filled in order, and every way in which bytes can fail the check.
+//! Strips: sizes, slots filled in order, and every way in which bytes can fail the check.
 use crate::values::{puts, row};
 use cabinet::*;
 use numbers::*;

@@ -1,4 +1,4 @@
-// Trays: writes left, and a cell past the last.
+//! Trays: writes left, and a cell past the last.
 use crate::values::{puts, row};
 use cabinet::*;
 use numbers::*;

@@ -1,4 +1,4 @@
-// What happened, in plain words.
+//! What happened, in plain words.
 use super::{Heard, Statement};
 use crate::spelling::Spelled;
 use crate::views::Dotted;
@@ -81,7 +81,7 @@ impl Statement {
         Ok(())
     }
 
-    // The statement on a site as it is now.
+    /// The statement on a site as it is now.
     pub fn tell<O: Write>(&self, out: &mut O, site: &Site) -> io::Result<()> {
         self.tell_steps(out)?;
         if !site.is_ready() {

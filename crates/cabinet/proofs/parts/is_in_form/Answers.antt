@@ -1,23 +1,22 @@
-use Rattle.std.proofs.Common.{◌≡◌, arith, rules}
-use Rattle.cabinet.proofs.Flags.{decides_by}
-use Rattle.cabinet.specs.Slots.{slots_in}
+use Rattle.std.proofs.Common.{sym, ◌∙◌, arith}
+use Rattle.std.proofs.lemmas.Bool.{true≢false}
+use Rattle.cabinet.proofs.Halves.{halves_form, form_front, form_back}
+use Rattle.cabinet.proofs.Search.{most}
 use Rattle.cabinet.proofs.parts.is_in_form.Goals as goal
 
-pub returns : goal.returns
-returns c =
-    let p = c.all.ensures.runs in
-    let q = c.enumerate.ensures.runs p.0 p.0.seen p.1 in
-    let s = q.1 in
-    let r = c.chunks_exact.ensures.runs s.0 s.0.seen (search rules) in
-    decides_by c.all.result _
-    (λ t k lt.
-    let all = rw t at p.2 in
-    let long : p.0.len ≡ slots_in c.args.part.now = (let w = r.1 in grind arith) in
-    let is = p.0.reads k (k, c.args.part) (omega (arith, long)) in
-    let place = q.0 k in let item = s.2.0.2 k in let here = r.2 k in
-    let gave = all.1 (λ a b g e. search rules) k in
-    ((λ h. grind arith), (λ h. grind arith)))
-    (λ f form. let any = rw f at p.2 in let some = any (λ a b g e. search rules) in
-    let place = q.0 some.0 in let item = s.2.0.2 some.0 in let here = r.2 some.0 in
-    let fits = form some.0 in
-    grind arith)
+pub overflow_mul-n : goal.overflow_mul-n
+overflow_mul-n c = omega (arith, c.requires, most c.args.part.now)
+
+pub split_at-requires : goal.split_at-requires
+split_at-requires c = omega (arith, c.requires, most c.args.part.now)
+
+pub returns-then-all_in_form : goal.returns-then-all_in_form
+returns-then-all_in_form c =
+    let cut = c.split_at.ensures in
+    let good = c.all_in_form.ensures.0 c.if-all_in_form.true in
+    ((λ t. halves_form _ _ _ c.args.n c.requires cut.front cut.back good (c.all_empty.ensures.0 t)), (λ form. c.all_empty.ensures.1 (form_back _ _ _ c.args.n c.requires cut.front cut.back form)))
+
+pub returns-else-all_in_form : goal.returns-else-all_in_form
+returns-else-all_in_form c =
+    let cut = c.split_at.ensures in
+    ((λ t. absurd (true≢false (sym t ∙ c.if-all_in_form.false))), (λ form. c.all_in_form.ensures.1 (form_front _ _ c.split_at.result.1.now c.args.n c.requires cut.front cut.back form)))
