@@ -22,13 +22,14 @@ impl Kind for CardChange {
 
     fn say(&self, question: Question) -> Option<Answer> {
         let door = question.second;
-        if self.card != question.first || door >= 16 || (self.doors >> door) % 2 != 1 {
-            return None;
-        }
-        Some(if self.given {
-            Answer::Green
+        if self.card == question.first && door < 16 && (self.doors >> door) % 2 == 1 {
+            Some(if self.given {
+                Answer::Green
+            } else {
+                Answer::Red
+            })
         } else {
-            Answer::Red
-        })
+            None
+        }
     }
 }

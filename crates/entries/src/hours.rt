@@ -21,13 +21,14 @@ impl Kind for HoursChange {
 
     fn say(&self, question: Question) -> Option<Answer> {
         let minute = question.second;
-        if self.door != question.first {
-            return None;
-        }
-        if self.opening <= minute && minute < self.shutting {
-            Some(Answer::Green)
+        if self.door == question.first {
+            Some(if self.opening <= minute && minute < self.shutting {
+                Answer::Green
+            } else {
+                Answer::Red
+            })
         } else {
-            Some(Answer::Red)
+            None
         }
     }
 }
