@@ -22,8 +22,8 @@ fn main() {
     cabinets();
 }
 
-/// A number below a million, as it is read.
-fn read(number: usize) -> String {
+/// A number below a million, with a comma before the last three digits.
+fn with_comma(number: usize) -> String {
     if number < 1_000 { number.to_string() } else { format!("{},{:03}", number / 1_000, number % 1_000) }
 }
 
@@ -53,13 +53,13 @@ fn lookups() {
         for length in [1, 64, 4_096, 65_535] {
             let book = inputs::book(length, kind == "cards");
             let none = inputs::unsettled((32_000_000 / length).clamp(500, 500_000));
-            let name = format!("lookup in {} {kind}, nothing settles", read(length));
+            let name = format!("lookup in {} {kind}, nothing settles", with_comma(length));
             show(&name, &look_up(&name, &book, &none, library, peer));
             if length > 1_000 {
                 long.push((name, length));
             }
             let last = inputs::settled(500_000);
-            let name = format!("lookup in {} {kind}, the last settles", read(length));
+            let name = format!("lookup in {} {kind}, the last settles", with_comma(length));
             show(&name, &look_up(&name, &book, &last, library, peer));
         }
     }
@@ -105,7 +105,7 @@ fn changes() {
 fn view_changes() {
     for (cap, kept, rounds) in [(1, 0, 10_000), (65_535, 65_535, 50)] {
         for n in [3, 5, 7] {
-            let name = format!("a view change, n = {n}, books of {}", read(kept.into()));
+            let name = format!("a view change, n = {n}, books of {}", with_comma(kept.into()));
             let side = |call: fn(u16, u16, u16, u16) -> Tally| {
                 less(move |all| call(black_box(n), cap, kept, if all { rounds } else { 0 }))
             };

@@ -1,6 +1,6 @@
 //! One table of the rows of several runs, which differ only in where the linker put each function.
 
-/// A row of a run: the work, and two numbers.
+/// A row of a run: the work, and two numbers: the times of library and peer, or the bytes of a sum and its time.
 struct Row<'a> {
     work: &'a str,
     first: f64,
