@@ -1,5 +1,7 @@
 -- A waiting controller joins the view of an active primary. Assumes nothing.
 use Rattle.std.specs.Prelude.{ℕ, Bool, true, List, [], ◌∷◌, ◌++◌, length, drop, Ok, Err, Result, nat_le}
+use Rattle.numbers.specs.declared.refusals.Refusal.{Refusal}
+use Rattle.numbers.specs.declared.refusals.Refusal.TheVariants.{DoesNotFit, NotPrimary, PoolFull, WrongPower, WrongStatus, WrongView}
 use Rattle.numbers.specs.declared.views.ControllerNumber.{ControllerNumber}
 use Rattle.numbers.specs.declared.views.View.{View}
 use Rattle.numbers.specs.Views.{earlier, same_view}
@@ -33,19 +35,19 @@ pub record Joined (E : Type 0) : Type 0 where
 
 -- i is waiting, and p active and primary, both up
 abbrev pub join_asks : Controller → Controller → List Question
-join_asks r led = q 5 (is_up r) ∷ q 5 (is_up led) ∷ q 6 (is_waiting r) ∷ q 6 (is_active led) ∷ q 7 (is_primary led) ∷ []
+join_asks r led = q WrongPower (is_up r) ∷ q WrongPower (is_up led) ∷ q WrongStatus (is_waiting r) ∷ q WrongStatus (is_active led) ∷ q NotPrimary (is_primary led) ∷ []
 
 abbrev pub may_join : ControllerNumber → Controller → Controller → Result (Unit {0}) Fault
 may_join i r led = asks (join_asks r led) (λ k. Err (refusal_at i k)) (Ok tt)
 
 module _ {E : Type 0} (i : ControllerNumber) (r : Controller) (book : List (Entry E)) (cs : List Cell) where
-  abbrev refuse : ℕ → Joined E
+  abbrev refuse : Refusal → Joined E
   refuse k = record { result = Err (refusal_at i k); row = r; book = book; cells = cs }
 
   -- i follows p in view v, whose primary's entries are `log`: it puts the view as current, takes the entries over and acknowledges their number
   abbrev pub followed : ControllerNumber → View → List (Entry E) → Bool → Joined E
   followed p v log room =
-      asks (q 8 (same_view v r.views.promised) ∷ q 8 (earlier r.views.current v) ∷ q 10 (nat_le (length log) (cap_of book)) ∷ q 14 room ∷ []) refuse
+      asks (q WrongView (same_view v r.views.promised) ∷ q WrongView (earlier r.views.current v) ∷ q DoesNotFit (nat_le (length log) (cap_of book)) ∷ q PoolFull room ∷ []) refuse
       (record {
         result = put_result cs i (joined_row p v (length log)).views (message i p v (Acknowledgement (length log)));
         row = if_put cs i (joined_row p v (length log)).views r (joined_row p v (length log));

@@ -7,6 +7,7 @@ pub mod Power
 pub mod Primaries
 pub mod Questions
 pub mod Records
+pub mod Shares
 pub mod Slips
 pub mod Verdicts
 pub mod ViewChanges

@@ -1,25 +1,22 @@
 -- A power cut, and the recovery from it. Assumes nothing.
-use Rattle.std.specs.Prelude.{false, not, List, [], ◌∷◌, Ok, Err}
+use Rattle.std.specs.Prelude.{not, [], ◌∷◌}
+use Rattle.numbers.specs.declared.refusals.Refusal.TheVariants.{WrongPower}
 use Rattle.numbers.specs.declared.rows.Row.{Row}
 use Rattle.numbers.specs.declared.views.ControllerNumber.{ControllerNumber}
-use Rattle.numbers.specs.Views.{controller_of}
-use Rattle.cabinet.specs.declared.cells.Cell.{Cell}
 use Rattle.cabinet.specs.Cells.{cell_at}
 use Rattle.controller.specs.declared.records.Controller.{Controller}
 use Rattle.controller.specs.declared.records.Status.TheVariants.{Waiting}
-use Rattle.controller.specs.Questions.{Kept, asks, q, refusal_at}
 use Rattle.controller.specs.Records.{down_record, is_up}
-
-abbrev pub crashed : ControllerNumber → Controller → Kept (Unit {0})
-crashed i r =
-    asks (q 5 (is_up r) ∷ []) (λ k. record { result = Err (refusal_at i k); row = r })
-    (record { result = Ok tt; row = down_record })
+use Rattle.controller.specs.Questions.{ask}
+use Rattle.controller.specs.Shares.{Deed, Held, nothing_done}
 
 -- back, with the views of its cell and no book
 abbrev pub back_record : Row → Controller
-back_record w = record { status = Waiting; views = w; complete = false; length = 0; primary = controller_of 0 }
+back_record w = record down_record { status = Waiting; views = w }
 
-abbrev pub recovered : List Cell → ControllerNumber → Controller → Kept (Unit {0})
-recovered cs i r =
-    asks (q 5 (not (is_up r)) ∷ []) (λ k. record { result = Err (refusal_at i k); row = r })
-    (record { result = Ok tt; row = back_record (cell_at cs i.number).row })
+module _ {E : Type 0} (i : ControllerNumber) (h : Held E) where
+  abbrev pub crash : Deed (Unit {0}) E
+  crash = record (nothing_done h (ask (is_up h.row) WrongPower ∷ []) tt) { row = down_record }
+
+  abbrev pub recover : Deed (Unit {0}) E
+  recover = record (nothing_done h (ask (not (is_up h.row)) WrongPower ∷ []) tt) { row = back_record (cell_at h.cells i.number).row }

@@ -1,5 +1,6 @@
 -- A change, an entry passed on, and a lookup. Assumes nothing.
 use Rattle.std.specs.Prelude.{◌+◌, Bool, List, [], ◌∷◌, is_some, Some, None, Ok, Err, Option, Result, nat_lt, slice_set}
+use Rattle.numbers.specs.declared.refusals.Refusal.TheVariants.{BookFull, DoesNotFit, NotPrimary, PoolFull, WrongPower, WrongStatus}
 use Rattle.numbers.specs.declared.views.ControllerNumber.{ControllerNumber}
 use Rattle.numbers.specs.declared.views.Place.{Place}
 use Rattle.numbers.specs.declared.views.View.{View}
@@ -20,13 +21,13 @@ use Rattle.controller.specs.Slips.{slip_of}
 
 -- the questions of every step of a primary
 abbrev pub primary_asks : Controller → List Question → List Question
-primary_asks r qs = q 5 (is_up r) ∷ q 6 (is_active r) ∷ q 7 (is_primary r) ∷ qs
+primary_asks r qs = q WrongPower (is_up r) ∷ q WrongStatus (is_active r) ∷ q NotPrimary (is_primary r) ∷ qs
 
 module _ {E : Type 0} where
   -- x is appended in the current view; its slip is its stamp
   abbrev pub changed : ControllerNumber → Controller → List (Entry E) → E → Written Slip E
   changed i r book x =
-      asks (primary_asks r (q 11 (nat_lt r.length (cap_of book)) ∷ []))
+      asks (primary_asks r (q BookFull (nat_lt r.length (cap_of book)) ∷ []))
       (λ k. record { result = Err (refusal_at i k); row = r; book = book })
       (record {
         result = Ok (slip_of (record { view = r.views.current; place = place_of (r.length + 1) }));
@@ -35,16 +36,16 @@ module _ {E : Type 0} where
       })
 
   abbrev pub pass_message : ControllerNumber → ControllerNumber → View → Place → Option (Entry E) → Result (Message E) Fault
-  pass_message i b v k None = Err (refusal_at i 10)
+  pass_message i b v k None = Err (refusal_at i DoesNotFit)
   pass_message i b v k (Some e) = Ok (message i b v (Carries k e))
 
   -- the entry at place k goes to b in the current view
   abbrev pub passed : ControllerNumber → Controller → List (Entry E) → ControllerNumber → Place → Bool → Result (Message E) Fault
   passed i r book b k room =
-      asks (primary_asks r (q 10 (is_some (at_place (in_use r book) k.number)) ∷ q 14 room ∷ [])) (λ n. Err (refusal_at i n))
+      asks (primary_asks r (q DoesNotFit (is_some (at_place (in_use r book) k.number)) ∷ q PoolFull room ∷ [])) (λ n. Err (refusal_at i n))
       (pass_message i b r.views.current k (at_place (in_use r book) k.number))
 
   -- the rule of lookup, over the entries in use
   abbrev pub looked_up : (E → Asked → Option Answer) → Answer → ControllerNumber → Controller → List (Entry E) → Asked → Result Answer Fault
   looked_up says unsettled i r book question =
-      asks (q 5 (is_up r) ∷ q 6 (is_active r) ∷ []) (λ k. Err (refusal_at i k)) (Ok (looked says unsettled (in_use r book) question))
+      asks (q WrongPower (is_up r) ∷ q WrongStatus (is_active r) ∷ []) (λ k. Err (refusal_at i k)) (Ok (looked says unsettled (in_use r book) question))

@@ -1,8 +1,8 @@
 -- Questions in their order, of which the first no ends a step; and what steps give. Assumes nothing.
-use Rattle.std.specs.Prelude.{ℕ, Bool, cond, List, [], ◌∷◌, Result}
+use Rattle.std.specs.Prelude.{Bool, cond, List, [], ◌∷◌, Result}
 use Rattle.numbers.specs.declared.views.ControllerNumber.{ControllerNumber}
 use Rattle.numbers.specs.declared.views.View.{View}
-use Rattle.numbers.specs.Refusals.{refusal}
+use Rattle.numbers.specs.declared.refusals.Refusal.{Refusal}
 use Rattle.entries.specs.declared.book.Body.{Body}
 use Rattle.entries.specs.declared.book.Entry.{Entry}
 use Rattle.entries.specs.declared.book.Message.{Message}
@@ -11,22 +11,25 @@ use Rattle.controller.specs.declared.faults.Fault.{Fault}
 use Rattle.controller.specs.declared.faults.Fault.TheVariants.{Refused}
 use Rattle.controller.specs.declared.records.Controller.{Controller}
 
--- a question's number, and whether its answer is yes
+-- a question: whether its answer is yes, and the refusal that a no is
 pub record Question : Type 0 where
-  pub number : ℕ
-  pub yes_to_it : Bool
+  pub yes : Bool
+  pub refusal : Refusal
 
-abbrev pub q : ℕ → Bool → Question
-q k b = record { number = k; yes_to_it = b }
+abbrev pub ask : Bool → Refusal → Question
+ask b k = record { yes = b; refusal = k }
+
+abbrev pub q : Refusal → Bool → Question
+q k b = record { yes = b; refusal = k }
 
 -- `taken` if all answers are yes, else what `refused` makes of the first no
-abbrev pub asks : {A : Type 0} → List Question → (ℕ → A) → A → A
+abbrev pub asks : {A : Type 0} → List Question → (Refusal → A) → A → A
 asks [] refused taken = taken
-asks (x ∷ xs) refused taken = cond x.yes_to_it (asks xs refused taken) (refused x.number)
+asks (x ∷ xs) refused taken = cond x.yes (asks xs refused taken) (refused x.refusal)
 
 -- controller i's step was refused by question k
-abbrev pub refusal_at : ControllerNumber → ℕ → Fault
-refusal_at i k = Refused (refusal k) i
+abbrev pub refusal_at : ControllerNumber → Refusal → Fault
+refusal_at i k = Refused k i
 
 -- what steps give
 

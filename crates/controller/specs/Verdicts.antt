@@ -1,5 +1,6 @@
 -- What becomes of a slip: confirmed, lost or waiting. Assumes nothing.
 use Rattle.std.specs.Prelude.{◌≡◌, ℕ, Bool, true, false, cond, not, ◌&&◌, List, [], ◌∷◌, take, Some, None, Ok, Err, Option, Result, nat_le}
+use Rattle.numbers.specs.declared.refusals.Refusal.TheVariants.{WrongView}
 use Rattle.numbers.specs.declared.views.ControllerNumber.{ControllerNumber}
 use Rattle.numbers.specs.declared.views.Stamp.{Stamp}
 use Rattle.numbers.specs.declared.views.View.{View}
@@ -67,7 +68,7 @@ module _ {E : Type 0} where
   verdict_of n r book s = cond (is_confirmed n r book s) Confirmed (cond (is_lost n r book s) Lost Undecided)
 
   abbrev pub judged : ℕ → ControllerNumber → Controller → List (Entry E) → Stamp → Result Verdict Fault
-  judged n i r book s = asks (primary_asks r (q 8 (not (earlier r.views.current s.view)) ∷ [])) (λ k. Err (refusal_at i k)) (Ok (verdict_of n r book s))
+  judged n i r book s = asks (primary_asks r (q WrongView (not (earlier r.views.current s.view)) ∷ [])) (λ k. Err (refusal_at i k)) (Ok (verdict_of n r book s))
 
 -- the slip is spent, unless it waits or the step is refused
 abbrev pub with_slip : Slip → Verdict → Settled

@@ -1,6 +1,7 @@
 -- Calling a view, inviting to it and forming it. Assumes nothing.
 use Rattle.std.specs.Prelude.{◌≡◌, ℕ, ◌+◌, Bool, true, false, cond, ◌⊎◌, List, [], ◌∷◌, take, is_some, Some, None, Ok, Err, Option, Result, nat_lt}
 use Rattle.std.specs.Option.{option_map}
+use Rattle.numbers.specs.declared.refusals.Refusal.TheVariants.{BadForm, CountsSpent, NoRuleAllows, PoolFull, WrongPower, WrongStatus}
 use Rattle.numbers.specs.declared.rows.Row.{Row}
 use Rattle.numbers.specs.declared.views.ControllerNumber.{ControllerNumber}
 use Rattle.numbers.specs.declared.views.View.{View}
@@ -16,16 +17,17 @@ use Rattle.controller.specs.declared.records.Controller.{Controller}
 use Rattle.controller.specs.declared.records.Status.{Status}
 use Rattle.controller.specs.declared.records.Status.TheVariants.{Down, Waiting, Manager, Backup, Primary}
 use Rattle.controller.specs.Faults.{worn_fault}
-use Rattle.controller.specs.Questions.{Kept, Put, asks, message, q, refusal_at}
+use Rattle.controller.specs.Questions.{Kept, Put, ask, asks, message, q, refusal_at}
 use Rattle.controller.specs.Records.{is_manager, is_up, only, reply_of, with_status}
+use Rattle.controller.specs.Shares.{Deed, Held, nothing_done}
 
 -- the views w are put into i's cell: a worn cell is refused first, then views that do not keep the form
 abbrev pub put_result : {A : Type 0} → List Cell → ControllerNumber → Row → A → Result A Fault
-put_result cs i w x = cond (is_worn cs i.number) (Err (worn_fault i.number)) (cond (row_ok w) (Ok x) (Err (refusal_at i 17)))
+put_result cs i w x = cond (is_worn cs i.number) (Err (worn_fault i.number)) (cond (row_ok w) (Ok x) (Err (refusal_at i BadForm)))
 
 -- why a put fails
 abbrev pub put_fails : List Cell → ControllerNumber → Row → Fault → Type 0
-put_fails cs i w e = ((is_worn cs i.number ≡ true) × (e ≡ worn_fault i.number)) ⊎ ((is_worn cs i.number ≡ false) × ((row_ok w ≡ false) × (e ≡ refusal_at i 17)))
+put_fails cs i w e = ((is_worn cs i.number ≡ true) × (e ≡ worn_fault i.number)) ⊎ ((is_worn cs i.number ≡ false) × ((row_ok w ≡ false) × (e ≡ refusal_at i BadForm)))
 
 abbrev pub put_after : List Cell → ControllerNumber → Row → List Cell
 put_after cs i w = cond (row_ok w) (put_cells cs i.number w) cs
@@ -43,24 +45,18 @@ abbrev pub called_view : ControllerNumber → Controller → View
 called_view i r = record { count = count_of (r.views.promised.count.number + 1); controller = i }
 
 abbrev pub called_row : ControllerNumber → Controller → Controller
-called_row i r = record {
-  status = Manager (only i (reply_of i r));
-  views = record { current = r.views.current; promised = called_view i r };
-  complete = r.complete;
-  length = r.length;
-  primary = r.primary;
-}
+called_row i r = record r { status = Manager (only i (reply_of i r)); views = record r.views { promised = called_view i r } }
 
-abbrev pub called : List Cell → ControllerNumber → Controller → Put (Unit {0})
-called cs i r =
-    asks (q 5 (is_up r) ∷ q 13 (nat_lt r.views.promised.count.number 16383) ∷ [])
-    (λ k. record { result = Err (refusal_at i k); row = r; cells = cs })
-    (put_taken cs i r (called_row i r) tt)
+abbrev pub call : {E : Type 0} → ControllerNumber → Held E → Deed (Unit {0}) E
+call i h = record (nothing_done h (ask (is_up h.row) WrongPower ∷ ask (nat_lt h.row.views.promised.count.number 16383) CountsSpent ∷ []) tt) {
+  row = called_row i h.row;
+  puts = true;
+}
 
 -- invite: an invitation to the promised view goes to b
 abbrev pub invited : {E : Type 0} → ControllerNumber → Controller → ControllerNumber → Bool → Result (Message E) Fault
 invited i r b room =
-    asks (q 5 (is_up r) ∷ q 6 (is_manager r) ∷ q 14 room ∷ []) (λ k. Err (refusal_at i k))
+    asks (q WrongPower (is_up r) ∷ q WrongStatus (is_manager r) ∷ q PoolFull room ∷ []) (λ k. Err (refusal_at i k))
     (Ok (message i b r.views.promised Invitation))
 
 -- form: the rules choose among the answers of controllers 0 to n - 1
@@ -76,12 +72,12 @@ unfoldable pub form_choice : ℕ → Controller → Option ControllerNumber
 form_choice n r = option_map controller_of (choice_at n r.status)
 
 abbrev form_message : {E : Type 0} → ControllerNumber → Controller → Option ControllerNumber → Result (Message E) Fault
-form_message i r None = Err (refusal_at i 12)
+form_message i r None = Err (refusal_at i NoRuleAllows)
 form_message i r (Some c) = Ok (message i c r.views.promised Form)
 
 -- the form message goes to the chosen controller, and i waits
 abbrev pub formed : {E : Type 0} → ℕ → ControllerNumber → Controller → Bool → Kept (Message E)
 formed n i r room =
-    asks (q 5 (is_up r) ∷ q 6 (is_manager r) ∷ q 12 (is_some (form_choice n r)) ∷ q 14 room ∷ [])
+    asks (q WrongPower (is_up r) ∷ q WrongStatus (is_manager r) ∷ q NoRuleAllows (is_some (form_choice n r)) ∷ q PoolFull room ∷ [])
     (λ k. record { result = Err (refusal_at i k); row = r })
     (record { result = form_message i r (form_choice n r); row = with_status r Waiting })

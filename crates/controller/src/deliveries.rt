@@ -1,8 +1,11 @@
 //! What a message does to its addressee.
-ghost use Rattle.std.specs.Prelude.{◌≡◌, ◌<◌, ◌≤◌, true, is_some, None, slice_index_or};
+ghost use Rattle.std.specs.Prelude.{◌≡◌, ◌<◌, ◌≤◌, Bool, true, List, is_some, None, slice_index_or};
 ghost use Rattle.controller.specs.Records.{is_manager, is_primary, answers_of, lengths_of};
 ghost use Rattle.controller.specs.Books.{cap_of};
-ghost use Rattle.controller.specs.Deliveries.{delivered, taken, took_acknowledgement, took_answer, took_entry, took_form, took_invitation};
+ghost use Rattle.entries.specs.declared.book.Entry.{Entry};
+ghost use Rattle.cabinet.specs.declared.cells.Cell.{Cell};
+ghost use Rattle.controller.specs.Shares.{gave, handed_reply, held};
+ghost use Rattle.controller.specs.Deliveries.{delivers, takes, takes_acknowledgement, takes_answer, takes_entry, takes_form, takes_invitation};
 ghost use Rattle.controller.specs.Messages.{body_ok, message_ok, reply_ok, view_below};
 
 use crate::books::{append, capacity};
@@ -74,9 +77,7 @@ fn take_invitation<E: Copy, C: Cabinet>(
     message: Message<E>,
     room: bool,
 ) -> Result<Option<Message<E>>, Fault>
-    ensures result { result ≡ (took_invitation me.number row.old message (C.cells cab.old).list room).result }
-    ensures row { row.new ≡ (took_invitation me.number row.old message (C.cells cab.old).list room).row }
-    ensures cells { (C.cells cab.new).list ≡ (took_invitation me.number row.old message (C.cells cab.old).list room).cells }
+    ensures { (b : List (Entry E)) → gave me.number room (held row.old b (C.cells cab.old).list) (takes_invitation me.number (held row.old b (C.cells cab.old).list) message) ≡ handed_reply message result (held row.new b (C.cells cab.new).list) }
 {
     ask(me, row.views.promised < message.view, Refusal::WrongView)?;
     ask(me, room, Refusal::PoolFull)?;
@@ -117,8 +118,7 @@ fn take_answer<E: Copy>(
     reply: Reply,
 ) -> Result<Option<Message<E>>, Fault>
     requires { (message.sender.number < 7) × (is_manager row.old ≡ true) }
-    ensures result { result ≡ (took_answer me.number row.old message (answers_of row.old.status) reply).result }
-    ensures row { row.new ≡ (took_answer me.number row.old message (answers_of row.old.status) reply).row }
+    ensures { (room : Bool) (b : List (Entry E)) (cs : List Cell) → gave me.number room (held row.old b cs) (takes_answer me.number (held row.old b cs) message (answers_of row.old.status) reply) ≡ handed_reply message result (held row.new b cs) }
 {
     let from = message.sender.number as usize;
     ask(me, message.view == row.views.promised, Refusal::WrongView)?;
@@ -136,9 +136,7 @@ fn take_form<E: Copy, C: Cabinet>(
     cab: &mut C,
     message: Message<E>,
 ) -> Result<Option<Message<E>>, Fault>
-    ensures result { result ≡ (took_form me.number row.old message (C.cells cab.old).list).result }
-    ensures row { row.new ≡ (took_form me.number row.old message (C.cells cab.old).list).row }
-    ensures cells { (C.cells cab.new).list ≡ (took_form me.number row.old message (C.cells cab.old).list).cells }
+    ensures { (room : Bool) (b : List (Entry E)) → gave me.number room (held row.old b (C.cells cab.old).list) (takes_form me.number (held row.old b (C.cells cab.old).list) message) ≡ handed_reply message result (held row.new b (C.cells cab.new).list) }
 {
     ask(me, message.view == row.views.promised, Refusal::WrongView)?;
     ask(me, row.complete, Refusal::IncompleteBook)?;
@@ -166,9 +164,7 @@ fn take_entry<E: Copy>(
     room: bool,
 ) -> Result<Option<Message<E>>, Fault>
     requires { place.number ≤ cap_of book.old }
-    ensures result { result ≡ (took_entry me.number row.old message book.old place entry room).result }
-    ensures row { row.new ≡ (took_entry me.number row.old message book.old place entry room).row }
-    ensures book { book.new ≡ (took_entry me.number row.old message book.old place entry room).book }
+    ensures { (cs : List Cell) → gave me.number room (held row.old book.old cs) (takes_entry me.number (held row.old book.old cs) message place entry) ≡ handed_reply message result (held row.new book.new cs) }
 {
     ask(me, message.view == row.views.current, Refusal::WrongView)?;
     ask(
@@ -195,8 +191,7 @@ fn take_acknowledgement<E: Copy>(
     length: u16,
 ) -> Result<Option<Message<E>>, Fault>
     requires { (message.sender.number < 7) × (is_primary row.old ≡ true) }
-    ensures result { result ≡ (took_acknowledgement me.number row.old message (lengths_of row.old.status) length).result }
-    ensures row { row.new ≡ (took_acknowledgement me.number row.old message (lengths_of row.old.status) length).row }
+    ensures { (room : Bool) (b : List (Entry E)) (cs : List Cell) → gave me.number room (held row.old b cs) (takes_acknowledgement me.number (held row.old b cs) message (lengths_of row.old.status) length) ≡ handed_reply message result (held row.new b cs) }
 {
     let from = message.sender.number as usize;
     ask(me, message.view == row.views.current, Refusal::WrongView)?;
@@ -219,10 +214,7 @@ fn take<E: Copy, C: Cabinet>(
     room: bool,
 ) -> Result<Option<Message<E>>, Fault>
     requires { message_ok me.n (cap_of book.old) message ≡ true }
-    ensures result { result ≡ (taken me.number row.old book.old (C.cells cab.old).list message room).result }
-    ensures row { row.new ≡ (taken me.number row.old book.old (C.cells cab.old).list message room).row }
-    ensures book { book.new ≡ (taken me.number row.old book.old (C.cells cab.old).list message room).book }
-    ensures cells { (C.cells cab.new).list ≡ (taken me.number row.old book.old (C.cells cab.old).list message room).cells }
+    ensures { gave me.number room (held row.old book.old (C.cells cab.old).list) (takes me.number (held row.old book.old (C.cells cab.old).list) message) ≡ handed_reply message result (held row.new book.new (C.cells cab.new).list) }
 {
     match (row.status, message.body) {
         (Status::Down, _) => Err(refused(me, Refusal::WrongPower)),
@@ -253,10 +245,7 @@ pub fn deliver<E: Copy, C: Cabinet>(
     message: Message<E>,
     room: bool,
 ) -> Result<Option<Message<E>>, Fault>
-    ensures result { result ≡ (delivered me.n me.number row.old book.old (C.cells cab.old).list message room).result }
-    ensures row { row.new ≡ (delivered me.n me.number row.old book.old (C.cells cab.old).list message room).row }
-    ensures book { book.new ≡ (delivered me.n me.number row.old book.old (C.cells cab.old).list message room).book }
-    ensures cells { (C.cells cab.new).list ≡ (delivered me.n me.number row.old book.old (C.cells cab.old).list message room).cells }
+    ensures { gave me.number room (held row.old book.old (C.cells cab.old).list) (delivers me.number (held row.old book.old (C.cells cab.old).list) message me.n) ≡ handed_reply message result (held row.new book.new (C.cells cab.new).list) }
 {
     let sizes = Sizes {
         n: me.n(),

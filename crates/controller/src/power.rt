@@ -1,6 +1,9 @@
 //! A power cut, and the recovery from it.
-ghost use Rattle.std.specs.Prelude.{◌≡◌};
-ghost use Rattle.controller.specs.Power.{crashed, recovered};
+ghost use Rattle.std.specs.Prelude.{◌≡◌, Bool, List};
+ghost use Rattle.entries.specs.declared.book.Entry.{Entry};
+ghost use Rattle.cabinet.specs.declared.cells.Cell.{Cell};
+ghost use Rattle.controller.specs.Shares.{gave, handed, held};
+ghost use Rattle.controller.specs.Power.{crash as crashes, recover as recovers};
 
 use crate::faults::Fault;
 use crate::questions::ask;
@@ -10,9 +13,8 @@ use forming::Member;
 use numbers::Refusal;
 
 /// The controller goes down and remembers nothing but its cell.
-pub fn crash(me: Member, row: &mut Controller) -> Result<(), Fault>
-    ensures result { result ≡ (crashed me.number row.old).result }
-    ensures row { row.new ≡ (crashed me.number row.old).row }
+pub fn crash<E>(me: Member, row: &mut Controller) -> Result<(), Fault>
+    ensures { (room : Bool) (b : List (Entry E)) (cs : List Cell) → gave me.number room (held row.old b cs) (crashes me.number (held row.old b cs)) ≡ handed result (held row.new b cs) }
 {
     ask(me, row.is_up(), Refusal::WrongPower)?;
     *row = Controller::down();
@@ -20,9 +22,8 @@ pub fn crash(me: Member, row: &mut Controller) -> Result<(), Fault>
 }
 
 /// The controller comes back: it waits with the views of its cell, and its book is not complete.
-pub fn recover<C: Cabinet>(me: Member, row: &mut Controller, cab: &C) -> Result<(), Fault>
-    ensures result { result ≡ (recovered (C.cells cab.now).list me.number row.old).result }
-    ensures row { row.new ≡ (recovered (C.cells cab.now).list me.number row.old).row }
+pub fn recover<E, C: Cabinet>(me: Member, row: &mut Controller, cab: &C) -> Result<(), Fault>
+    ensures { (room : Bool) (b : List (Entry E)) → gave me.number room (held row.old b (C.cells cab.now).list) (recovers me.number (held row.old b (C.cells cab.now).list)) ≡ handed result (held row.new b (C.cells cab.now).list) }
 {
     ask(me, !row.is_up(), Refusal::WrongPower)?;
     *row = Controller {

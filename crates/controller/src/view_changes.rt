@@ -1,9 +1,11 @@
 //! Calling a view, inviting to it and forming it.
-ghost use Rattle.std.specs.Prelude.{◌≡◌, true, false, MatchResult};
+ghost use Rattle.std.specs.Prelude.{◌≡◌, Bool, true, false, List, MatchResult};
+ghost use Rattle.entries.specs.declared.book.Entry.{Entry};
+ghost use Rattle.controller.specs.Shares.{gave, handed, held};
 ghost use Rattle.numbers.specs.Rows.{row_ok};
 ghost use Rattle.cabinet.specs.Cells.{is_worn};
 ghost use Rattle.controller.specs.Records.{reply_of};
-ghost use Rattle.controller.specs.ViewChanges.{called, form_choice, formed, invited, put_after, put_fails};
+ghost use Rattle.controller.specs.ViewChanges.{call as calls, form_choice, formed, invited, put_after, put_fails};
 
 use crate::faults::Fault;
 use crate::questions::{ask, refused};
@@ -44,10 +46,8 @@ pub fn reply(me: Member, row: &Controller) -> Reply
 }
 
 /// Calls the next view of this controller: promises it, and manages it with its own answer counted.
-pub fn call<C: Cabinet>(me: Member, row: &mut Controller, cab: &mut C) -> Result<(), Fault>
-    ensures result { result ≡ (called (C.cells cab.old).list me.number row.old).result }
-    ensures row { row.new ≡ (called (C.cells cab.old).list me.number row.old).row }
-    ensures cells { (C.cells cab.new).list ≡ (called (C.cells cab.old).list me.number row.old).cells }
+pub fn call<E, C: Cabinet>(me: Member, row: &mut Controller, cab: &mut C) -> Result<(), Fault>
+    ensures { (room : Bool) (b : List (Entry E)) → gave me.number room (held row.old b (C.cells cab.old).list) (calls me.number (held row.old b (C.cells cab.old).list)) ≡ handed result (held row.new b (C.cells cab.new).list) }
 {
     ask(me, row.is_up(), Refusal::WrongPower)?;
     let count = row.views.promised.count.number;

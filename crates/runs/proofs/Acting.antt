@@ -58,10 +58,10 @@ primary_leads n c m (Primary l) k h = record { is_active = k.0; is_primary = k.2
 
 module _ {E : Type 0} {n c : ℕ} {x : Controller} {w : Row} {b : List (Entry E)} {r : Replica E} (bonded : ReplicaR n c x w b r) (up : records.is_up x ≡ true) where
   pub current_code : r.current ≡ code x.views.current
-  current_code = bonded.current ∙ ap (λ z. code z.current) (sym (bonded.views up))
+  current_code = bonded.cell.current ∙ ap (λ z. code z.current) (sym (bonded.views up))
 
   pub promised_code : r.promised ≡ code x.views.promised
-  promised_code = bonded.promised ∙ ap (λ z. code z.promised) (sym (bonded.views up))
+  promised_code = bonded.cell.promised ∙ ap (λ z. code z.promised) (sym (bonded.views up))
 
   pub views_small : Small x.views.current × Small x.views.promised
-  views_small = row_small x.views (ap row_ok (bonded.views up) ∙ bonded.kept)
+  views_small = row_small x.views (ap row_ok (bonded.views up) ∙ bonded.cell.kept)

@@ -47,13 +47,13 @@ module _ {E : Type 0} {n : ℕ} {x : Controller} {w : Row} {b : List (Entry E)} 
       record {
         status = status;
         views = λ _. old.views is;
-        kept = old.kept;
-        current = old.current;
-        promised = old.promised;
+        cell = old.cell;
         complete = old.complete;
         primary = old.primary;
-        len = omega (arith, old.len);
-        within = omega (arith, length-set b x.length e);
-        same = same_after b e x.length room r.book r.length z (sym old.len) new old.same;
-        small = small_after b e x.length room small old.small;
+        log = record {
+          len = omega (arith, old.log.len);
+          within = omega (arith, length-set b x.length e);
+          same = same_after b e x.length room r.book r.length z (sym old.log.len) new old.log.same;
+          small = small_after b e x.length room small old.log.small;
+        };
       }

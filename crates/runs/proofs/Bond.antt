@@ -50,6 +50,12 @@ abbrev pub the_length : Option ℕ → ℕ
 the_length None = 0
 the_length (Some l) = suc l
 
+-- the views in a cell, and those of a replica
+pub record CellR (w : Row) (v u : ℕ) : Type 0 where
+  pub kept : row_ok w ≡ true
+  pub current : v ≡ code w.current
+  pub promised : u ≡ code w.promised
+
 module _ {E : Type 0} where
   abbrev pub the_entry : Entry E → model.Entry E
   the_entry e = record { view = code e.view; what = e.change }
@@ -85,19 +91,21 @@ module _ {E : Type 0} where
       (r.status ≡ active) × (length l ≡ 7) × (r.primary ≡ c)
       × ((d : ℕ) → d < n → r.acknowledged d ≡ the_length (get_or l d None))
 
+  -- l entries of the part b of the books, and the k entries f of a replica
+  pub record LogR (l : ℕ) (b : List (Entry E)) (k : ℕ) (f : ℕ → model.Entry E) : Type 0 where
+    pub len : k ≡ l
+    pub within : l ≤ length b
+    pub same : (j : ℕ) (e : Entry E) → j < l → item b j ≡ Some e → f j ≡ the_entry e
+    pub small : (j : ℕ) (e : Entry E) → j < l → item b j ≡ Some e → Small e.view
+
   -- controller c's record x, the row in its cell and its part b of the books, and its replica r
-  pub record ReplicaR (n c : ℕ) (x : Controller) (cell : Row) (b : List (Entry E)) (r : Replica E) : Type 0 where
+  pub record ReplicaR (n c : ℕ) (x : Controller) (w : Row) (b : List (Entry E)) (r : Replica E) : Type 0 where
     pub status : StatusR n c x.status r
-    pub views : is_up x ≡ true → x.views ≡ cell
-    pub kept : row_ok cell ≡ true
-    pub current : r.current ≡ code cell.current
-    pub promised : r.promised ≡ code cell.promised
+    pub views : is_up x ≡ true → x.views ≡ w
+    pub cell : CellR w r.current r.promised
     pub complete : r.complete ≡ x.complete
     pub primary : r.primary ≡ x.primary.number
-    pub len : r.length ≡ x.length
-    pub within : x.length ≤ length b
-    pub same : (j : ℕ) (e : Entry E) → j < x.length → item b j ≡ Some e → r.book j ≡ the_entry e
-    pub small : (j : ℕ) (e : Entry E) → j < x.length → item b j ≡ Some e → Small e.view
+    pub log : LogR x.length b r.length r.book
 
   -- Histories
 

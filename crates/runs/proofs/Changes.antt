@@ -2,6 +2,7 @@
 use Rattle.std.proofs.Common.{◌≡◌, ℕ, suc, ◌+◌, ◌<◌, ◌≤◌, true, ltb, List, [], ◌∷◌, ◌++◌, set, Some, Ok, Err, Option, refl, ap, ◌∙◌, arith}
 use Rattle.std.proofs.lemmas.List.{length-set}
 use Rattle.std.proofs.lemmas.Bool.{false≢true, ltb-true}
+use Rattle.numbers.specs.declared.refusals.Refusal.TheVariants.{BookFull}
 use Rattle.numbers.specs.declared.views.ControllerNumber.{ControllerNumber}
 use Rattle.numbers.specs.Views.{place_of}
 use Rattle.entries.specs.declared.kinds.Answer.{Answer as Light}
@@ -15,6 +16,7 @@ use Rattle.controller.specs.Primaries.{changed, primary_asks}
 use Rattle.controller.specs.Questions.{Written, q, refusal_at}
 use Rattle.controller.specs.Records.{is_primary, is_up, leading, with_status}
 use Rattle.controller.specs.Slips.{slip_of, stamp_on}
+use Rattle.controller.proofs.Deeds.{asks_split}
 use Rattle.site.specs.States.{Done, State, book, row}
 use Rattle.site.specs.Steps.{after_change, refuse, site_asks}
 use Rattle.protocol.specs.Model as model
@@ -29,7 +31,7 @@ use Rattle.runs.proofs.Appending.{appends}
 use Rattle.runs.proofs.Bond.{Bond, StatusR, the_length}
 use Rattle.runs.proofs.Frame.{book_long, frame_all, frame_note}
 use Rattle.runs.proofs.Ranges.{member_below}
-use Rattle.runs.proofs.Simulated.{Simulated, asks_split, stays}
+use Rattle.runs.proofs.Simulated.{Simulated, stays}
 use Rattle.runs.proofs.Tables.{table_set}
 
 -- the status of a primary, with its own length one more
@@ -74,17 +76,17 @@ module _ {E : Type 0} (says : E → Question → Option Light) (unsettled : Ligh
       let first = frame_all says unsettled n s h m bond i below (appended i c) taken.book s.cells (appending r e longer) (upd m.views r.current (growing (m.views r.current) e))
       (length-set b c.length (record { view = c.views.current; change = x }) ∙ book_long says unsettled n s h m bond i below) bond.cells_long (λ k z. refl)
       (appends i old up (record { view = c.views.current; change = x }) e longer (ap (λ v. record { view = v; what = x }) (current_code old up)) small (omega arith)
-      (status_after n bond.most i below c r e old.len c.status old.status leads)) in
+      (status_after n bond.most i below c r e old.log.len c.status old.status leads)) in
       record {
         site = model.after_change m i.number x;
         run = then run (model.change i.number x (primary_leads n i.number m c.status old.status leads));
         bond = frame_note says unsettled n _ h _ first (handed (stamp_on (slip_of (record { view = c.views.current; place = place_of (c.length + 1) }))) x) (model.handed r.current r.length x)
-            (current_code old up, small, omega (arith, old.len), refl);
+            (current_code old up, small, omega (arith, old.log.len), refl);
       }
 
   pub sim_change : Sim (step says unsettled s (Change i x)).state (told says unsettled h s (Change i x))
   sim_change =
       asks_split P (site_asks s i) (refuse s i) (after_change s i (changed i (row s i) (book s i) x)) (λ k. stays run bond)
-      (λ ys. asks_split (λ o. P (after_change s i o)) (primary_asks (row s i) (q 11 (ltb (row s i).length (cap_of (book s i))) ∷ []))
+      (λ ys. asks_split (λ o. P (after_change s i o)) (primary_asks (row s i) (q BookFull (ltb (row s i).length (cap_of (book s i))) ∷ []))
       (λ k. record { result = Err (refusal_at i k); row = row s i; book = book s i }) taken (λ k. stays run bond)
       (λ zs. taking (member_below s.site.n n i bond.size ys.1.0) zs.0 zs.1.1.0 (ltb-true _ _ zs.1.1.1.0)))

@@ -1,5 +1,5 @@
 -- The delivery of an acknowledgement is one of the protocol. Assumes nothing.
-use Rattle.std.proofs.Common.{◌≡◌, ℕ, suc, ◌<◌, max, true, leb, List, [], ◌∷◌, get_or, set, Some, None, Ok, Err, Option, sym, refl, ap, ◌∙◌, subst, arith, length-set}
+use Rattle.std.proofs.Common.{◌≡◌, ℕ, suc, ◌<◌, max, true, List, get_or, set, Some, None, Option, sym, refl, ap, ◌∙◌, subst, arith, length-set}
 use Rattle.numbers.specs.declared.views.ControllerNumber.{ControllerNumber}
 use Rattle.numbers.specs.declared.views.View.{View}
 use Rattle.numbers.specs.Views.{same_view}
@@ -12,10 +12,12 @@ use Rattle.controller.specs.declared.records.Controller.{Controller}
 use Rattle.controller.specs.declared.records.Status.{Status}
 use Rattle.controller.specs.declared.records.Status.TheVariants.{Down, Waiting, Manager, Backup, Primary}
 use Rattle.controller.specs.Books.{cap_of}
-use Rattle.controller.specs.Deliveries.{Delivered, by_status, larger}
-use Rattle.controller.specs.Questions.{message, q, refusal_at}
+use Rattle.controller.specs.Deliveries.{larger, takes_acknowledgement, takes_by}
+use Rattle.controller.specs.Questions.{message}
+use Rattle.controller.specs.Shares.{Gave, gave, taken as done_by}
 use Rattle.controller.specs.Records.{up, with_status}
 use Rattle.site.specs.States.{State, book, has_room, row}
+use Rattle.site.specs.Steps.{share}
 use Rattle.protocol.specs.Members.{Member}
 use Rattle.protocol.specs.Updates.{upd}
 use Rattle.protocol.specs.Model as model
@@ -27,8 +29,8 @@ use Rattle.runs.proofs.Codes.{same_code}
 use Rattle.runs.proofs.Frame.{book_long, frame_all}
 use Rattle.runs.proofs.Promises.{restated}
 use Rattle.runs.proofs.Ranges.{in_range}
-use Rattle.runs.proofs.Shown.{Shown, Takes, of_body, of_kept}
-use Rattle.runs.proofs.Simulated.{asks_split, stays}
+use Rattle.runs.proofs.Shown.{Shown, Takes, of_body, shown_split}
+use Rattle.runs.proofs.Simulated.{stays}
 use Rattle.runs.proofs.Tables.{table_set}
 
 -- the larger of two acknowledged lengths, as the protocol has it
@@ -41,7 +43,7 @@ module _ {E : Type 0} (says : E → Question → Option Light) (unsettled : Ligh
     abbrev x : Message E
     x = message a c v (Acknowledgement l)
 
-    abbrev Goal : Delivered E → Type 0
+    abbrev Goal : Gave (Message E) E → Type 0
     Goal = Shown says unsettled n blank s h j x
 
     abbrev after : List (Option ℕ) → Controller
@@ -50,7 +52,7 @@ module _ {E : Type 0} (says : E → Question → Option Light) (unsettled : Ligh
     -- the length is noted
     noted : Member (the_message x) m.pool → a.number < n → c.number < n
         → (lengths : List (Option ℕ)) → (row s c).status ≡ Primary lengths → same_view v (row s c).views.current ≡ true
-        → Goal (of_kept s c (record { result = Ok None; row = after lengths }))
+        → Goal (done_by c (has_room s) (share s c) (takes_acknowledgement c (share s c) x lengths l))
     noted member sender below lengths e same =
         let most = bond.most in
         let r = m.replicas c.number in
@@ -74,16 +76,12 @@ module _ {E : Type 0} (says : E → Question → Option Light) (unsettled : Ligh
         }
 
     by : Member (the_message x) m.pool → a.number < n → c.number < n
-        → (st : Status) → (row s c).status ≡ st → Goal (by_status c (row s c) (book s c) s.cells x (has_room s) st (Acknowledgement l))
+        → (st : Status) → (row s c).status ≡ st → Goal (gave c (has_room s) (share s c) (takes_by c (share s c) x st (Acknowledgement l)))
     by member sender below Down e = stays run bond
     by member sender below Waiting e = stays run bond
     by member sender below (Manager answers) e = stays run bond
     by member sender below Backup e = stays run bond
-    by member sender below (Primary lengths) e =
-        asks_split (λ o. Goal (of_kept s c o)) (q 8 (same_view v (row s c).views.current) ∷ q 10 (leb l (row s c).length) ∷ [])
-        (λ k. record { result = Err (refusal_at c k); row = row s c })
-        (record { result = Ok None; row = after lengths })
-        (λ k. stays run bond) (λ ys. noted member sender below lengths e ys.0)
+    by member sender below (Primary lengths) e = shown_split says unsettled n blank s h j x (takes_acknowledgement c (share s c) x lengths l) (stays run bond) (λ ys room put. noted member sender below lengths e ys.0)
 
     takes : Takes says unsettled n blank s h j m x
     takes member ok = let range = in_range n (cap_of (book s c)) x bond.most ok in by member range.sender range.addressee (row s c).status refl

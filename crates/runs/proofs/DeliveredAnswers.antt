@@ -1,5 +1,5 @@
 -- The delivery of an answer is one of the protocol. Assumes nothing.
-use Rattle.std.proofs.Common.{◌≡◌, ℕ, ◌<◌, ◌≤◌, true, not, leb, List, [], ◌∷◌, length, get_or, set, is_some, Some, None, Ok, Err, Option, sym, refl, ap, ◌∙◌, subst, arith, length-set}
+use Rattle.std.proofs.Common.{◌≡◌, ℕ, ◌<◌, ◌≤◌, true, leb, List, length, set, Some, Option, sym, refl, ap, ◌∙◌, subst, arith, length-set}
 use Rattle.std.proofs.lemmas.Bool.{and_parts}
 use Rattle.numbers.specs.declared.views.ControllerNumber.{ControllerNumber}
 use Rattle.numbers.specs.declared.views.View.{View}
@@ -13,13 +13,15 @@ use Rattle.entries.specs.declared.kinds.Question.{Question}
 use Rattle.cabinet.specs.Cells.{cell_at}
 use Rattle.controller.specs.declared.records.Controller.{Controller}
 use Rattle.controller.specs.declared.records.Status.{Status}
-use Rattle.controller.specs.declared.records.Status.TheVariants.{Down, Waiting, Manager, Backup, Primary}
+use Rattle.controller.specs.declared.records.Status.TheVariants.{Manager}
 use Rattle.controller.specs.Books.{cap_of}
-use Rattle.controller.specs.Deliveries.{Delivered, by_status, took_answer}
+use Rattle.controller.specs.Deliveries.{takes_answer, takes_by}
 use Rattle.controller.specs.Messages.{reply_ok, view_below}
-use Rattle.controller.specs.Questions.{message, q, refusal_at}
+use Rattle.controller.specs.Questions.{message}
+use Rattle.controller.specs.Shares.{Gave, gave, taken as done_by}
 use Rattle.controller.specs.Records.{up, with_status}
 use Rattle.site.specs.States.{State, book, has_room, row}
+use Rattle.site.specs.Steps.{share}
 use Rattle.protocol.specs.Members.{Member}
 use Rattle.protocol.specs.Updates.{upd}
 use Rattle.protocol.specs.Model as model
@@ -31,8 +33,8 @@ use Rattle.runs.proofs.Codes.{same_code}
 use Rattle.runs.proofs.Frame.{book_long, frame_all}
 use Rattle.runs.proofs.Promises.{restated}
 use Rattle.runs.proofs.Ranges.{below_small, in_range}
-use Rattle.runs.proofs.Shown.{Shown, Takes, of_body, of_kept}
-use Rattle.runs.proofs.Simulated.{asks_split, stays}
+use Rattle.runs.proofs.Shown.{Shown, Takes, of_body, shown_split}
+use Rattle.runs.proofs.Simulated.{stays}
 use Rattle.runs.proofs.Tables.{small_set, table_set}
 
 -- a reply in range is of a small view
@@ -45,7 +47,7 @@ module _ {E : Type 0} (says : E → Question → Option Light) (unsettled : Ligh
     abbrev x : Message E
     x = message a c v (Answers y)
 
-    abbrev Goal : Delivered E → Type 0
+    abbrev Goal : Gave (Message E) E → Type 0
     Goal = Shown says unsettled n blank s h j x
 
     abbrev after : List (Option Reply) → Controller
@@ -54,7 +56,7 @@ module _ {E : Type 0} (says : E → Question → Option Light) (unsettled : Ligh
     -- the answer is counted
     counted : Member (the_message x) m.pool → a.number < n → c.number < n → SmallAnswer (Some y)
         → (answers : List (Option Reply)) → (row s c).status ≡ Manager answers → same_view v (row s c).views.promised ≡ true
-        → Goal (of_kept s c (record { result = Ok None; row = after answers }))
+        → Goal (done_by c (has_room s) (share s c) (takes_answer c (share s c) x answers y))
     counted member sender below small answers e same =
         let most = bond.most in
         let r = m.replicas c.number in
@@ -72,21 +74,10 @@ module _ {E : Type 0} (says : E → Question → Option Light) (unsettled : Ligh
               (restated old is (Manager (set answers a.number (Some y))) r.status r.acknowledged next status);
         }
 
-    took : Member (the_message x) m.pool → a.number < n → c.number < n → SmallAnswer (Some y)
-        → (answers : List (Option Reply)) → (row s c).status ≡ Manager answers → Goal (of_kept s c (took_answer c (row s c) x answers y))
-    took member sender below small answers e =
-        asks_split (λ o. Goal (of_kept s c o)) (q 8 (same_view v (row s c).views.promised) ∷ q 10 (not (is_some (get_or answers a.number None))) ∷ [])
-        (λ k. record { result = Err (refusal_at c k); row = row s c })
-        (record { result = Ok None; row = after answers })
-        (λ k. stays run bond) (λ ys. counted member sender below small answers e ys.0)
-
     by : Member (the_message x) m.pool → a.number < n → c.number < n → SmallAnswer (Some y)
-        → (st : Status) → (row s c).status ≡ st → Goal (by_status c (row s c) (book s c) s.cells x (has_room s) st (Answers y))
-    by member sender below small Down e = stays run bond
-    by member sender below small Waiting e = stays run bond
-    by member sender below small (Manager answers) e = took member sender below small answers e
-    by member sender below small Backup e = stays run bond
-    by member sender below small (Primary lengths) e = stays run bond
+        → (st : Status) → (row s c).status ≡ st → Goal (gave c (has_room s) (share s c) (takes_by c (share s c) x st (Answers y)))
+    by member sender below small (Manager answers) e = shown_split says unsettled n blank s h j x (takes_answer c (share s c) x answers y) (stays run bond) (λ ys room put. counted member sender below small answers e ys.0)
+    by member sender below small st e = stays run bond
 
     takes : Takes says unsettled n blank s h j m x
     takes member ok =

@@ -1,5 +1,5 @@
 -- The delivery of an entry is one of the protocol. Assumes nothing.
-use Rattle.std.proofs.Common.{◌≡◌, ℕ, suc, ◌+◌, ◌-◌, ◌<◌, ◌≤◌, true, eqb, leb, List, [], ◌∷◌, length, set, Some, Ok, Err, Option, sym, refl, ap, ◌∙◌, subst, arith, length-set}
+use Rattle.std.proofs.Common.{◌≡◌, ℕ, suc, ◌+◌, ◌-◌, ◌<◌, ◌≤◌, true, eqb, leb, List, length, set, Option, sym, refl, ap, ◌∙◌, subst, arith, length-set}
 use Rattle.std.proofs.lemmas.Bool.{and_parts, eqb-true, leb-true, ltb-true}
 use Rattle.numbers.specs.declared.views.ControllerNumber.{ControllerNumber}
 use Rattle.numbers.specs.declared.views.Place.{Place}
@@ -15,11 +15,13 @@ use Rattle.controller.specs.declared.records.Controller.{Controller}
 use Rattle.controller.specs.declared.records.Status.{Status}
 use Rattle.controller.specs.declared.records.Status.TheVariants.{Down, Waiting, Manager, Backup, Primary}
 use Rattle.controller.specs.Books.{appended, cap_of}
-use Rattle.controller.specs.Deliveries.{Delivered, by_status}
+use Rattle.controller.specs.Deliveries.{takes_by, takes_entry}
 use Rattle.controller.specs.Messages.{body_ok, view_below}
-use Rattle.controller.specs.Questions.{message, q, refusal_at}
+use Rattle.controller.specs.Questions.{message}
+use Rattle.controller.specs.Shares.{Gave, gave, taken as done_by}
 use Rattle.controller.specs.Records.{is_up, up, with_status}
 use Rattle.site.specs.States.{State, book, has_room, put_all, row, sent}
+use Rattle.site.specs.Steps.{share}
 use Rattle.protocol.specs.Members.{Member}
 use Rattle.protocol.specs.Model as model
 use Rattle.protocol.specs.Model.{Run, Site, acknowledgement, active, appending, deliver_entry, send, then, with_replica}
@@ -32,8 +34,8 @@ use Rattle.runs.proofs.Bond.{Bond, ReplicaR, Small, StatusR, code, the_entry, th
 use Rattle.runs.proofs.Codes.{same_code}
 use Rattle.runs.proofs.Frame.{book_long, frame_all, frame_send}
 use Rattle.runs.proofs.Ranges.{below_small, in_range}
-use Rattle.runs.proofs.Shown.{Shown, Takes, of_body, of_written}
-use Rattle.runs.proofs.Simulated.{asks_split, stays}
+use Rattle.runs.proofs.Shown.{Shown, Takes, of_body, shown_split}
+use Rattle.runs.proofs.Simulated.{stays}
 
 -- an entry in range fits the book, and its view is small
 entry_fits : {E : Type 0} (n : ℕ) (b : List (Entry E)) (k : Place) (e : Entry E) → n ≤ 7 → body_ok n (cap_of b) (Carries k e) ≡ true → (k.number ≤ length b) × Small e.view
@@ -58,7 +60,7 @@ module _ {E : Type 0} (says : E → Question → Option Light) (unsettled : Ligh
     abbrev state : State E
     state = put_all s c after longer s.cells
 
-    abbrev Goal : Delivered E → Type 0
+    abbrev Goal : Gave (Message E) E → Type 0
     Goal = Shown says unsettled n blank s h j x
 
     -- a controller's replica, if it is up, is in the view that it is asked for
@@ -68,7 +70,7 @@ module _ {E : Type 0} (says : E → Question → Option Light) (unsettled : Ligh
     -- the entry is taken, and acknowledged
     followed : Member (the_message x) m.pool → c.number < n → body_ok n (cap_of (book s c)) (Carries k e) ≡ true
         → (row s c).status ≡ Backup → same_view v (row s c).views.current ≡ true → eqb k.number ((row s c).length + 1) ≡ true → has_room s ≡ true
-        → Goal (of_written s c (record { result = Ok (Some reply); row = after; book = longer }))
+        → Goal (done_by c (has_room s) (share s c) (takes_entry c (share s c) x k e))
     followed member below ok is same next room =
         let r = m.replicas c.number in
         let l = (row s c).length in
@@ -78,8 +80,8 @@ module _ {E : Type 0} (says : E → Question → Option Light) (unsettled : Ligh
         let fits = entry_fits n (book s c) k e bond.most ok in
         let at : k.number ≡ l + 1 = eqb-true k.number (l + 1) next in
         let inside : l < length (book s c) = omega (arith, fits.0) in
-        let last : k.number - 1 ≡ r.length = omega (arith, old.len) in
-        let one_more : l + 1 ≡ suc r.length = omega (arith, old.len) in
+        let last : k.number - 1 ≡ r.length = omega (arith, old.log.len) in
+        let one_more : l + 1 ≡ suc r.length = omega (arith, old.log.len) in
         let after_status : StatusR n c.number after.status (appending r (the_entry e) r.acknowledged) =
         subst (λ t. StatusR n c.number (appended c (with_status (row s c) t)).status (appending r (the_entry e) r.acknowledged)) (sym is) was in
         let left : Site E = with_replica m c.number (appending r (the_entry e) r.acknowledged) in
@@ -105,19 +107,15 @@ module _ {E : Type 0} (says : E → Question → Option Light) (unsettled : Ligh
         let whole : (m.views (code v)).log_length ≡ r.length =
         subst (λ (z : ℕ). (m.views z).log_length ≡ r.length) (in_view below (ap up is) same) (whole_log n m inv c.number (record { is_active = was.0; is_primary = was.2 })) in
         let at : k.number ≡ (row s c).length + 1 = eqb-true k.number ((row s c).length + 1) next in
-        omega (arith, old.len)
+        omega (arith, old.log.len)
 
     -- the questions of an active addressee
-    took : (same_view v (row s c).views.current ≡ true → eqb k.number ((row s c).length + 1) ≡ true → has_room s ≡ true → Goal (of_written s c (record { result = Ok (Some reply); row = after; book = longer })))
-        → Goal (by_status c (row s c) (book s c) s.cells x (has_room s) Backup (Carries k e))
-    took go =
-        asks_split (λ o. Goal (of_written s c o)) (q 8 (same_view v (row s c).views.current) ∷ q 10 (eqb k.number ((row s c).length + 1)) ∷ q 14 (has_room s) ∷ [])
-        (λ f. record { result = Err (refusal_at c f); row = row s c; book = book s c })
-        (record { result = Ok (Some reply); row = after; book = longer })
-        (λ f. stays run bond) (λ ys. go ys.0 ys.1.0 ys.1.1.0)
+    took : (same_view v (row s c).views.current ≡ true → eqb k.number ((row s c).length + 1) ≡ true → has_room s ≡ true → Goal (done_by c (has_room s) (share s c) (takes_entry c (share s c) x k e)))
+        → Goal (gave c (has_room s) (share s c) (takes_by c (share s c) x Backup (Carries k e)))
+    took go = shown_split says unsettled n blank s h j x (takes_entry c (share s c) x k e) (stays run bond) (λ ys room put. go ys.0 ys.1.0 room.0)
 
     by : Member (the_message x) m.pool → c.number < n → body_ok n (cap_of (book s c)) (Carries k e) ≡ true
-        → (st : Status) → (row s c).status ≡ st → Goal (by_status c (row s c) (book s c) s.cells x (has_room s) st (Carries k e))
+        → (st : Status) → (row s c).status ≡ st → Goal (gave c (has_room s) (share s c) (takes_by c (share s c) x st (Carries k e)))
     by member below ok Down is = stays run bond
     by member below ok Waiting is = stays run bond
     by member below ok (Manager answers) is = stays run bond

@@ -1,5 +1,5 @@
 -- The delivery of an invitation is one of the protocol. Assumes nothing.
-use Rattle.std.proofs.Common.{◌≡◌, ℕ, ◌<◌, true, List, [], ◌∷◌, length, Some, Ok, Err, Option, sym, refl, ap, subst}
+use Rattle.std.proofs.Common.{◌≡◌, ℕ, ◌<◌, true, not, List, length, Option, sym, refl, ap, subst}
 use Rattle.std.proofs.lemmas.Bool.{ltb-true}
 use Rattle.numbers.specs.declared.views.ControllerNumber.{ControllerNumber}
 use Rattle.numbers.specs.declared.views.View.{View}
@@ -9,16 +9,17 @@ use Rattle.entries.specs.declared.book.Body.TheVariants.{Invitation, Answer as A
 use Rattle.entries.specs.declared.book.Message.{Message}
 use Rattle.entries.specs.declared.kinds.Answer.{Answer as Light}
 use Rattle.entries.specs.declared.kinds.Question.{Question}
-use Rattle.cabinet.specs.Cells.{cell_at}
+use Rattle.cabinet.specs.Cells.{cell_at, is_worn, put_cells}
 use Rattle.controller.specs.declared.records.Controller.{Controller}
 use Rattle.controller.specs.declared.records.Status.{Status}
 use Rattle.controller.specs.declared.records.Status.TheVariants.{Down, Waiting, Manager, Backup, Primary}
 use Rattle.controller.specs.Books.{cap_of}
-use Rattle.controller.specs.Deliveries.{Delivered, by_status, promised_row, took_invitation}
-use Rattle.controller.specs.Questions.{message, q, refusal_at}
+use Rattle.controller.specs.Deliveries.{promised_row, takes_by, takes_invitation}
+use Rattle.controller.specs.Questions.{message}
+use Rattle.controller.specs.Shares.{Gave, gave, taken as done_by}
 use Rattle.controller.specs.Records.{is_up, reply_of, up}
-use Rattle.controller.specs.ViewChanges.{put_taken}
 use Rattle.site.specs.States.{State, book, has_room, put_all, row, sent}
+use Rattle.site.specs.Steps.{share}
 use Rattle.protocol.specs.Members.{Member}
 use Rattle.protocol.specs.Model as model
 use Rattle.protocol.specs.Model.{Run, Site, deliver_invitation, none, promising, send, then, waiting, with_replica}
@@ -28,10 +29,10 @@ use Rattle.runs.proofs.Bond.{Bond, ReplicaR, Small, code, the_message}
 use Rattle.runs.proofs.Codes.{earlier_code}
 use Rattle.runs.proofs.Frame.{book_long, frame_send}
 use Rattle.runs.proofs.Promises.{answer_is, promises}
-use Rattle.runs.proofs.Puts.{frame_put_all, put_in, put_split}
+use Rattle.runs.proofs.Puts.{frame_put_deed}
 use Rattle.runs.proofs.Ranges.{in_range}
-use Rattle.runs.proofs.Shown.{Shown, Takes, of_body, of_put}
-use Rattle.runs.proofs.Simulated.{asks_split, stays}
+use Rattle.runs.proofs.Shown.{Shown, Takes, of_body, shown_split}
+use Rattle.runs.proofs.Simulated.{stays}
 
 module _ {E : Type 0} (says : E → Question → Option Light) (unsettled : Light) (n : ℕ) (blank : ℕ → model.Entry E) where
   module _ (s : State E) (h : List (Event E)) (m : Site E) (run : Run n blank m) (bond : Bond says unsettled n s h m) (j : ℕ) (a c : ControllerNumber) (v : View) where
@@ -45,22 +46,22 @@ module _ {E : Type 0} (says : E → Question → Option Light) (unsettled : Ligh
     after = promised_row (row s c) v
 
     abbrev state : State E
-    state = put_all s c after (book s c) (put_in s.cells c after.views)
+    state = put_all s c after (book s c) (put_cells s.cells c.number after.views)
 
-    abbrev Goal : Delivered E → Type 0
+    abbrev Goal : Gave (Message E) E → Type 0
     Goal = Shown says unsettled n blank s h j x
 
     -- the view is promised, and answered
     promised : Member (the_message x) m.pool → c.number < n → Small v
-        → is_up (row s c) ≡ true → earlier (row s c).views.promised v ≡ true → has_room s ≡ true → row_ok after.views ≡ true
-        → Goal (of_put s c (record { result = Ok (Some reply); row = after; cells = put_in s.cells c after.views }))
-    promised member below in_range is later room kept =
+        → is_up (row s c) ≡ true → earlier (row s c).views.promised v ≡ true → has_room s ≡ true → not (is_worn s.cells c.number) ≡ true → row_ok after.views ≡ true
+        → Goal (done_by c (has_room s) (share s c) (takes_invitation c (share s c) x))
+    promised member below in_range is later room fresh kept =
         let r = m.replicas c.number in
         let old : ReplicaR n c.number (row s c) (cell_at s.cells c.number).row (book s c) r = bond.replicas c.number below in
         let small = views_small old is in
         let before : r.promised < code v = subst (λ k. k < code v) (sym (promised_code old is)) (earlier_code (row s c).views.promised v small.1 in_range later) in
         let next = promising r waiting (code v) (λ _. none) in
-        let put = frame_put_all says unsettled n s h m bond c below after after.views (book s c) next m.views (book_long says unsettled n s h m bond c below)
+        let put = frame_put_deed says unsettled n s h m bond c below after after.views (book s c) next m.views fresh (book_long says unsettled n s h m bond c below)
         (promises old is Waiting waiting v (code v) (λ _. none) refl kept refl) in
         record {
           site = model.after_invitation m a.number c.number (code v);
@@ -70,15 +71,10 @@ module _ {E : Type 0} (says : E → Question → Option Light) (unsettled : Ligh
               (frame_send says unsettled n state h (with_replica m c.number next) put reply (ltb-true s.site.count (length s.pool) room));
         }
 
-    took : Member (the_message x) m.pool → c.number < n → Small v → is_up (row s c) ≡ true → Goal (of_put s c (took_invitation c (row s c) x s.cells (has_room s)))
-    took member below in_range is =
-        asks_split (λ o. Goal (of_put s c o)) (q 8 (earlier (row s c).views.promised v) ∷ q 14 (has_room s) ∷ [])
-        (λ k. record { result = Err (refusal_at c k); row = row s c; cells = s.cells })
-        (put_taken s.cells c (row s c) after (Some reply))
-        (λ k. stays run bond)
-        (λ ys. put_split (λ o. Goal (of_put s c o)) s.cells c (row s c) after (Some reply) (λ f o cells. stays run bond) (λ kept. promised member below in_range is ys.0 ys.1.0 kept))
+    took : Member (the_message x) m.pool → c.number < n → Small v → is_up (row s c) ≡ true → Goal (gave c (has_room s) (share s c) (takes_invitation c (share s c) x))
+    took member below in_range is = shown_split says unsettled n blank s h j x (takes_invitation c (share s c) x) (stays run bond) (λ ys room put. promised member below in_range is ys.0 room.0 put.0 put.1.0)
 
-    by : Member (the_message x) m.pool → c.number < n → Small v → (st : Status) → (row s c).status ≡ st → Goal (by_status c (row s c) (book s c) s.cells x (has_room s) st Invitation)
+    by : Member (the_message x) m.pool → c.number < n → Small v → (st : Status) → (row s c).status ≡ st → Goal (gave c (has_room s) (share s c) (takes_by c (share s c) x st Invitation))
     by member below in_range Down e = stays run bond
     by member below in_range Waiting e = took member below in_range (ap up e)
     by member below in_range (Manager answers) e = took member below in_range (ap up e)

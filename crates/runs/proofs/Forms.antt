@@ -2,6 +2,7 @@
 use Rattle.std.proofs.Common.{◌≡◌, ℕ, ◌<◌, true, List, [], ◌∷◌, length, take, is_some, Some, None, Ok, Err, Option, Result, sym, refl, ap, ◌∙◌, subst, arith}
 use Rattle.std.proofs.lemmas.Bool.{ltb-true}
 use Rattle.std.specs.Option.{option_map}
+use Rattle.numbers.specs.declared.refusals.Refusal.TheVariants.{NoRuleAllows, PoolFull, WrongPower, WrongStatus}
 use Rattle.numbers.specs.declared.views.ControllerNumber.{ControllerNumber}
 use Rattle.numbers.specs.Views.{controller_of}
 use Rattle.entries.specs.declared.book.Body.TheVariants.{Form as Opens}
@@ -18,6 +19,7 @@ use Rattle.controller.specs.declared.records.Status.TheVariants.{Down, Waiting, 
 use Rattle.controller.specs.Questions.{Kept, message, q, refusal_at}
 use Rattle.controller.specs.Records.{is_manager, is_up, managing, up, with_status}
 use Rattle.controller.specs.ViewChanges.{choice_at, form_choice, formed}
+use Rattle.controller.proofs.Deeds.{asks_split}
 use Rattle.site.specs.States.{Done, State, book, has_room, put_row, row, sent}
 use Rattle.site.specs.Steps.{after_form, refuse, site_asks}
 use Rattle.protocol.specs.Model as model
@@ -31,7 +33,7 @@ use Rattle.runs.proofs.Choices.{Formable, formable}
 use Rattle.runs.proofs.Frame.{frame_row, frame_send}
 use Rattle.runs.proofs.Promises.{restated}
 use Rattle.runs.proofs.Ranges.{member_below}
-use Rattle.runs.proofs.Simulated.{Simulated, asks_split, stays}
+use Rattle.runs.proofs.Simulated.{Simulated, stays}
 
 mapped_back : (o : Option ℕ) (c : ControllerNumber) → option_map controller_of o ≡ Some c → o ≡ Some c.number
 mapped_back None c e = let z : ◌≡◌ {A = ℕ} 0 1 = cc in absurd (omega arith)
@@ -49,7 +51,7 @@ module _ {E : Type 0} (says : E → Question → Option Light) (unsettled : Ligh
 
     -- the form message to the chosen controller, or none
     abbrev to_chosen : Option ControllerNumber → Result (Message E) Fault
-    to_chosen None = Err (refusal_at i 12)
+    to_chosen None = Err (refusal_at i NoRuleAllows)
     to_chosen (Some c) = Ok (message i c (row s i).views.promised Opens)
 
     abbrev given : Option ControllerNumber → Kept (Message E)
@@ -87,7 +89,7 @@ module _ {E : Type 0} (says : E → Question → Option Light) (unsettled : Ligh
 
     may_form : i.number < n → Goal (after_form s i (formed s.site.n i (row s i) (has_room s)))
     may_form below =
-        asks_split (λ o. Goal (after_form s i o)) (q 5 (is_up (row s i)) ∷ q 6 (is_manager (row s i)) ∷ q 12 (is_some (form_choice s.site.n (row s i))) ∷ q 14 (has_room s) ∷ [])
+        asks_split (λ o. Goal (after_form s i o)) (q WrongPower (is_up (row s i)) ∷ q WrongStatus (is_manager (row s i)) ∷ q NoRuleAllows (is_some (form_choice s.site.n (row s i))) ∷ q PoolFull (has_room s) ∷ [])
         (λ k. record { result = Err (refusal_at i k); row = row s i }) (given (form_choice s.site.n (row s i)))
         (λ k. stays run bond)
         (λ ys. by below ys.1.1.1.0 (row s i).status refl ys.1.0 (form_choice s.site.n (row s i)) refl)

@@ -2,6 +2,7 @@
 use Rattle.std.proofs.Common.{◌≡◌, ℕ, ◌<◌, ◌≤◌, true, leb, List, [], ◌∷◌, length, take, drop, Ok, Err, Option, Result, sym, refl, ◌∙◌, subst, arith, length-append, length-drop}
 use Rattle.std.proofs.lemmas.List.{length-take-le}
 use Rattle.std.proofs.lemmas.Bool.{leb-true, ltb-true}
+use Rattle.numbers.specs.declared.refusals.Refusal.TheVariants.{DoesNotFit, PoolFull, WrongView}
 use Rattle.numbers.specs.declared.views.ControllerNumber.{ControllerNumber}
 use Rattle.numbers.specs.declared.views.View.{View}
 use Rattle.numbers.specs.Rows.{row_ok}
@@ -18,6 +19,7 @@ use Rattle.controller.specs.Joins.{Joined, copied, followed, if_may, join_asks, 
 use Rattle.controller.specs.Questions.{message, q, refusal_at}
 use Rattle.controller.specs.Records.{is_up, leading, waiting}
 use Rattle.controller.specs.ViewChanges.{if_put, put_after, put_result}
+use Rattle.controller.proofs.Deeds.{AllYes, asks_split}
 use Rattle.site.specs.States.{Done, State, book, has_room, put_all, row, sent}
 use Rattle.site.specs.Steps.{after_join, pair_asks, refuse}
 use Rattle.protocol.specs.Model as model
@@ -32,7 +34,7 @@ use Rattle.runs.proofs.Frame.{book_long, frame_send}
 use Rattle.runs.proofs.Items.{item_append_left, item_take}
 use Rattle.runs.proofs.Puts.{frame_put_all, put_in, put_split_all}
 use Rattle.runs.proofs.Ranges.{member_below}
-use Rattle.runs.proofs.Simulated.{AllYes, Simulated, asks_split, stays}
+use Rattle.runs.proofs.Simulated.{Simulated, stays}
 
 same_acknowledgement : (E : Type 0) (a b v w l k : ℕ) → v ≡ w → l ≡ k → ◌≡◌ {A = model.Message E} (acknowledgement a b v l) (acknowledgement a b w k)
 same_acknowledgement E a b v w l k e f = cc
@@ -86,25 +88,25 @@ module _ {E : Type 0} (says : E → Question → Option Light) (unsettled : Ligh
         let current_v : o.current ≡ code v = current_code led may.alive_p in
         let later : code (row s i).views.current < code v = earlier_code (row s i).views.current v (views_small rep may.alive).0 (views_small led may.alive_p).0 may.later in
         let before : r.current < o.current = omega (arith, current_code rep may.alive) in
-        let log_long : length log ≡ (row s p).length = length-take-le (row s p).length (book s p) led.within in
+        let log_long : length log ≡ (row s p).length = length-take-le (row s p).length (book s p) led.log.within in
         let entered = entering r r.promised p.number o.length o.book (λ _. 0) in
         let framed = frame_put_all says unsettled n s h m bond i may.low new new.views (copied log (book s i)) entered m.views
         (copied_long log (book s i) may.fits ∙ book_long says unsettled n s h m bond i may.low)
         (record {
           status = refl;
           views = λ _. refl;
-          kept = form;
-          current = promised_v;
-          promised = promised_v;
+          cell = record { kept = form; current = promised_v; promised = promised_v };
           complete = refl;
           primary = refl;
-          len = led.len ∙ sym log_long;
+          log = record {
+          len = led.log.len ∙ sym log_long;
           within = omega (arith, copied_long log (book s i) may.fits, may.fits);
-          same = λ j e lt at. led.same j e (omega arith) (sym (copied_item (row s p).length (book s p) (book s i) led.within j lt) ∙ at);
-          small = λ j e lt at. led.small j e (omega arith) (sym (copied_item (row s p).length (book s p) (book s i) led.within j lt) ∙ at);
+          same = λ j e lt at. led.log.same j e (omega arith) (sym (copied_item (row s p).length (book s p) (book s i) led.log.within j lt) ∙ at);
+          small = λ j e lt at. led.log.small j e (omega arith) (sym (copied_item (row s p).length (book s p) (book s i) led.log.within j lt) ∙ at);
+          };
         }) in
         let answered = frame_send says unsettled n (put_all s i new (copied log (book s i)) cs) h (model.with_replica m i.number entered) framed (message i p v (Acknowledgement (length log))) may.room in
-        let as_sent = same_acknowledgement E i.number p.number (code v) r.promised (length log) o.length (sym promised_v) (log_long ∙ sym led.len) in
+        let as_sent = same_acknowledgement E i.number p.number (code v) r.promised (length log) o.length (sym promised_v) (log_long ∙ sym led.log.len) in
         record {
           site = model.after_join m i.number p.number;
           run = then run (model.join i.number p.number (waiting_is_waiting n i.number r (row s i).status rep.status may.waits_so) (primary_leads n p.number m (row s p).status led.status may.leads_so) (current_v ∙ sym promised_v) before);
@@ -116,7 +118,7 @@ module _ {E : Type 0} (says : E → Question → Option Light) (unsettled : Ligh
         → Shown (followed i (row s i) (book s i) s.cells p v log (has_room s))
     follow taken in_i in_p may =
         asks_split Shown
-        (q 8 (same_view v (row s i).views.promised) ∷ q 8 (earlier (row s i).views.current v) ∷ q 10 (leb (length log) (cap_of (book s i))) ∷ q 14 (has_room s) ∷ [])
+        (q WrongView (same_view v (row s i).views.promised) ∷ q WrongView (earlier (row s i).views.current v) ∷ q DoesNotFit (leb (length log) (cap_of (book s i))) ∷ q PoolFull (has_room s) ∷ [])
         (λ k. record { result = Err (refusal_at i k); row = row s i; book = book s i; cells = s.cells })
         (record {
           result = put_result s.cells i new.views (message i p v (Acknowledgement (length log)));

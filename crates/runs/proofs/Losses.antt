@@ -1,4 +1,5 @@
 -- A message that is lost is still in the protocol's pool, which keeps every one. Assumes nothing.
+use Rattle.numbers.specs.declared.refusals.Refusal.TheVariants.{NoSuchMessage, NotMade}
 use Rattle.std.proofs.Common.{◌≡◌, ℕ, ◌-◌, ◌<◌, ltb, ◌⊎◌, List, [], ◌∷◌, set, Some, None, Ok, Option, sym, refl, ap, ◌∙◌, subst, inl, inr, arith}
 use Rattle.std.proofs.lemmas.List.{length-set}
 use Rattle.std.proofs.lemmas.Bool.{cases_eq, ltb-true}
@@ -7,6 +8,7 @@ use Rattle.entries.specs.declared.kinds.Answer.{Answer as Light}
 use Rattle.entries.specs.declared.kinds.Question.{Question}
 use Rattle.controller.specs.Books.{item}
 use Rattle.controller.specs.Questions.{q}
+use Rattle.controller.proofs.Deeds.{asks_split}
 use Rattle.site.specs.States.{Done, State, is_made}
 use Rattle.site.specs.Steps.{dropped, refuse_about}
 use Rattle.protocol.specs.Members.{Member}
@@ -18,7 +20,7 @@ use Rattle.runs.specs.Runs.{step}
 use Rattle.runs.proofs.Bond.{Bond, the_message}
 use Rattle.runs.proofs.Frame.{frame_pool}
 use Rattle.runs.proofs.Items.{item_set_other, item_set_same}
-use Rattle.runs.proofs.Simulated.{Simulated, asks_split, stays}
+use Rattle.runs.proofs.Simulated.{Simulated, stays}
 
 module _ {E : Type 0} (says : E → Question → Option Light) (unsettled : Light) (n : ℕ) (blank : ℕ → model.Entry E)
     (s : State E) (h : List (Event E)) (m : Site E) (run : Run n blank m) (bond : Bond says unsettled n s h m) where
@@ -47,5 +49,5 @@ module _ {E : Type 0} (says : E → Question → Option Light) (unsettled : Ligh
 
   pub sim_lose : (j : ℕ) → Simulated says unsettled n blank (step says unsettled s (Lose j)).state (told says unsettled h s (Lose j))
   sim_lose j =
-      asks_split P (q 1 (is_made s) ∷ q 3 (ltb j s.site.count) ∷ []) (refuse_about s j) (record { result = Ok tt; state = dropped s j (item s.pool (s.site.count - 1)) }) (λ _. stays run bond)
+      asks_split P (q NotMade (is_made s) ∷ q NoSuchMessage (ltb j s.site.count) ∷ []) (refuse_about s j) (record { result = Ok tt; state = dropped s j (item s.pool (s.site.count - 1)) }) (λ _. stays run bond)
       (λ ys. record { site = m; run = run; bond = drops j (ltb-true _ _ ys.1.0) (item s.pool (s.site.count - 1)) refl })

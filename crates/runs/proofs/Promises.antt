@@ -17,40 +17,15 @@ use Rattle.runs.proofs.Tables.{reply_same}
 module _ {E : Type 0} where
   -- the replica with another status, other lengths and other answers
   abbrev pub restating : Replica E → model.Status → (ℕ → ℕ) → (ℕ → model.Answer) → Replica E
-  restating r t k a =
-      record {
-        status = t;
-        current = r.current;
-        promised = r.promised;
-        complete = r.complete;
-        primary = r.primary;
-        length = r.length;
-        book = r.book;
-        acknowledged = k;
-        answers = a;
-        floor = r.floor;
-      }
+  restating r t k a = record r { status = t; acknowledged = k; answers = a }
 
   module _ {n c : ℕ} {x : Controller} {w : Row} {b : List (Entry E)} {r : Replica E} (old : ReplicaR n c x w b r) (is : is_up x ≡ true) where
     -- both say the same of themselves
     pub answer_is : (i : ControllerNumber) → answer_of i.number r ≡ the_answer (Some (reply_of i x))
-    answer_is i = reply_same i x r old.complete (current_code old is) old.len old.primary
+    answer_is i = reply_same i x r old.complete (current_code old is) old.log.len old.primary
 
     pub restated : (st : Status) (t : model.Status) (k : ℕ → ℕ) (a : ℕ → model.Answer) → StatusR n c st (restating r t k a) → ReplicaR n c (with_status x st) w b (restating r t k a)
-    restated st t k a status =
-        record {
-          status = status;
-          views = λ _. old.views is;
-          kept = old.kept;
-          current = old.current;
-          promised = old.promised;
-          complete = old.complete;
-          primary = old.primary;
-          len = old.len;
-          within = old.within;
-          same = old.same;
-          small = old.small;
-        }
+    restated st t k a status = record { status = status; views = λ _. old.views is; cell = old.cell; complete = old.complete; primary = old.primary; log = old.log }
 
     -- promised to the view v, whose code is u, with another status
     pub promises : (st : Status) (t : model.Status) (v : View) (u : ℕ) (a : ℕ → model.Answer)
@@ -59,16 +34,4 @@ module _ {E : Type 0} where
         → ReplicaR n c (record { status = st; views = record { current = x.views.current; promised = v }; complete = x.complete; length = x.length; primary = x.primary })
         (record { current = x.views.current; promised = v }) b (promising r t u a)
     promises st t v u a e kept status =
-        record {
-          status = status;
-          views = λ _. refl;
-          kept = kept;
-          current = current_code old is;
-          promised = e;
-          complete = old.complete;
-          primary = old.primary;
-          len = old.len;
-          within = old.within;
-          same = old.same;
-          small = old.small;
-        }
+        record { status = status; views = λ _. refl; cell = record { kept = kept; current = current_code old is; promised = e }; complete = old.complete; primary = old.primary; log = old.log }

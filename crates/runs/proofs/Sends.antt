@@ -1,6 +1,7 @@
 -- A pass of an entry and an invitation are sendings of the protocol. Assumes nothing.
 use Rattle.std.proofs.Common.{◌≡◌, ℕ, ◌-◌, ◌<◌, true, List, [], ◌∷◌, is_some, Some, None, Ok, Err, Option, refl, ap, ◌∙◌, subst, arith}
 use Rattle.std.proofs.lemmas.Bool.{ltb-true}
+use Rattle.numbers.specs.declared.refusals.Refusal.TheVariants.{DoesNotFit, PoolFull, WrongPower, WrongStatus}
 use Rattle.numbers.specs.declared.views.ControllerNumber.{ControllerNumber}
 use Rattle.numbers.specs.declared.views.Place.{Place}
 use Rattle.entries.specs.declared.book.Body.TheVariants.{Invitation, Entry as Carries}
@@ -14,6 +15,7 @@ use Rattle.controller.specs.Primaries.{pass_message, passed, primary_asks}
 use Rattle.controller.specs.Questions.{message, q, refusal_at}
 use Rattle.controller.specs.Records.{is_manager, is_primary, is_up}
 use Rattle.controller.specs.ViewChanges.{invited}
+use Rattle.controller.proofs.Deeds.{asks_split}
 use Rattle.site.specs.States.{Done, State, book, has_room, row, sent}
 use Rattle.site.specs.Steps.{pair_asks, refuse, sending}
 use Rattle.protocol.specs.Model as model
@@ -26,7 +28,7 @@ use Rattle.runs.proofs.Bond.{Bond, ReplicaR, code, the_message}
 use Rattle.runs.proofs.Frame.{frame_send}
 use Rattle.runs.proofs.Items.{item_of_take, place_item}
 use Rattle.runs.proofs.Ranges.{member_below}
-use Rattle.runs.proofs.Simulated.{Simulated, asks_split, stays}
+use Rattle.runs.proofs.Simulated.{Simulated, stays}
 
 module _ {E : Type 0} (says : E → Question → Option Light) (unsettled : Light) (n : ℕ) (blank : ℕ → model.Entry E)
     (s : State E) (h : List (Event E)) (m : Site E) (run : Run n blank m) (bond : Bond says unsettled n s h m) where
@@ -59,10 +61,10 @@ module _ {E : Type 0} (says : E → Question → Option Light) (unsettled : Ligh
       passes k up leads room (Some x) e =
           let used = item_of_take (row s i).length (book s i) (k.number - 1) x (place_item (in_use (row s i) (book s i)) k.number x e).1 in
           let within = used.0 in
-          let len = bonded.len in
+          let len = bonded.log.len in
           sends (message i b (row s i).views.current (Carries k x)) room (model.entry i.number b.number r.current (k.number - 1) (r.book (k.number - 1)))
           (ap (λ z. model.entry i.number b.number z (k.number - 1) (r.book (k.number - 1))) (current_code bonded up)
-          ∙ ap (λ z. model.entry i.number b.number (code (row s i).views.current) (k.number - 1) z) (bonded.same (k.number - 1) x within used.1))
+          ∙ ap (λ z. model.entry i.number b.number (code (row s i).views.current) (k.number - 1) z) (bonded.log.same (k.number - 1) x within used.1))
           (model.pass i.number b.number (k.number - 1) (primary_leads n i.number m (row s i).status bonded.status leads) (omega arith))
 
       invites : is_up (row s i) ≡ true → is_manager (row s i) ≡ true → has_room s ≡ true → Sim (sent s (message i b (row s i).views.promised Invitation))
@@ -75,13 +77,13 @@ module _ {E : Type 0} (says : E → Question → Option Light) (unsettled : Ligh
     sim_pass k =
         asks_split P (pair_asks s i b) (refuse s i) (sending s (λ _. tt) (passed i (row s i) (book s i) b k (has_room s)) s) (λ _. stays run bond)
         (λ ys. asks_split (λ o. P (sending s (λ _. tt) o s))
-        (primary_asks (row s i) (q 10 (is_some (at_place (in_use (row s i) (book s i)) k.number)) ∷ q 14 (has_room s) ∷ [])) (λ z. Err (refusal_at i z))
+        (primary_asks (row s i) (q DoesNotFit (is_some (at_place (in_use (row s i) (book s i)) k.number)) ∷ q PoolFull (has_room s) ∷ [])) (λ z. Err (refusal_at i z))
         (pass_message i b (row s i).views.current k (at_place (in_use (row s i) (book s i)) k.number)) (λ _. stays run bond)
         (λ zs. passes (member_below s.site.n n i bond.size ys.1.0) k zs.0 zs.1.1.0 zs.1.1.1.1.0 _ refl))
 
     pub sim_invite : Simulated says unsettled n blank (step says unsettled s (Invite i b)).state (told says unsettled h s (Invite i b))
     sim_invite =
         asks_split P (pair_asks s i b) (refuse s i) (sending s (λ _. tt) (invited i (row s i) b (has_room s)) s) (λ _. stays run bond)
-        (λ ys. asks_split (λ o. P (sending s (λ _. tt) o s)) (q 5 (is_up (row s i)) ∷ q 6 (is_manager (row s i)) ∷ q 14 (has_room s) ∷ []) (λ z. Err (refusal_at i z))
+        (λ ys. asks_split (λ o. P (sending s (λ _. tt) o s)) (q WrongPower (is_up (row s i)) ∷ q WrongStatus (is_manager (row s i)) ∷ q PoolFull (has_room s) ∷ []) (λ z. Err (refusal_at i z))
         (Ok (message i b (row s i).views.promised Invitation)) (λ _. stays run bond)
         (λ zs. invites (member_below s.site.n n i bond.size ys.1.0) zs.0 zs.1.0 zs.1.1.0))

@@ -1,5 +1,6 @@
 -- A settle by a slip's numbers: from the slip that was taken up and what came back to the verdict. Assumes nothing.
 use Rattle.std.proofs.Common.{◌≡◌, Bool, true, false, cond, Ok, Err, Result, sym, refl, ap, ◌∙◌}
+use Rattle.numbers.specs.declared.refusals.Refusal.TheVariants.{BadForm}
 use Rattle.numbers.specs.declared.views.ControllerNumber.{ControllerNumber}
 use Rattle.numbers.specs.declared.views.Stamp.{Stamp}
 use Rattle.numbers.specs.Views.{controller_of, stamp_ok}
@@ -29,7 +30,7 @@ verdict_back slip (Err f) = refl
 
 -- what a take-up of the stamp's slip gives
 abbrev taken_up : Stamp → Bool → Result Slip Fault
-taken_up t ok = cond ok (Ok (slip_of t)) (Err (fault_by (controller_of 0) 17))
+taken_up t ok = cond ok (Ok (slip_of t)) (Err (fault_by (controller_of 0) BadForm))
 
 module _ {E : Type 0} (s : State E) (i : ControllerNumber) (t : Stamp) where
   placed_still : (v : Result Verdict Stopped) → (placed s v s).state ≡ s
@@ -48,7 +49,7 @@ module _ {E : Type 0} (s : State E) (i : ControllerNumber) (t : Stamp) where
   pub settle_up : (slip : Slip) (r : Result Settled (Fault × Slip)) → Ok slip ≡ taken_up t (stamp_ok t) → settle_slip s i slip ≡ r → settle_numbers s i t ≡ done (result_in r) s
   settle_up slip r up gives = by (stamp_ok t) up
     where
-      by : (ok : Bool) → Ok slip ≡ taken_up t ok → cond ok (settle_step s i t) (refuse s (controller_of 0) 17) ≡ done (result_in r) s
+      by : (ok : Bool) → Ok slip ≡ taken_up t ok → cond ok (settle_step s i t) (refuse s (controller_of 0) BadForm) ≡ done (result_in r) s
       by true e = let same : slip_of t ≡ slip = cc in settled r (ap (settle_slip s i) same ∙ gives)
       by false e = absurd (cc)
 
@@ -56,6 +57,6 @@ module _ {E : Type 0} (s : State E) (i : ControllerNumber) (t : Stamp) where
   pub settle_not_up : (f : Fault) → Err f ≡ taken_up t (stamp_ok t) → settle_numbers s i t ≡ done (Err f) s
   settle_not_up f up = by (stamp_ok t) up
     where
-      by : (ok : Bool) → Err f ≡ taken_up t ok → cond ok (settle_step s i t) (refuse s (controller_of 0) 17) ≡ done (Err f) s
+      by : (ok : Bool) → Err f ≡ taken_up t ok → cond ok (settle_step s i t) (refuse s (controller_of 0) BadForm) ≡ done (Err f) s
       by true e = absurd (cc)
       by false e = ap (λ z. done (Err z) s) (cc)

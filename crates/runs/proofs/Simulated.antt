@@ -1,9 +1,14 @@
 -- What is shown of a step: the protocol has a run that the state after it belongs to. Assumes nothing.
-use Rattle.std.proofs.Common.{◌≡◌, ℕ, Bool, true, false, cond, List, [], ◌∷◌, Option, sym, refl, subst}
+use Rattle.std.proofs.Common.{ℕ, List, Err, Option}
 use Rattle.entries.specs.declared.kinds.Answer.{Answer as Light}
 use Rattle.entries.specs.declared.kinds.Question.{Question}
-use Rattle.controller.specs.Questions.{Question as Asked, asks}
-use Rattle.site.specs.States.{State}
+use Rattle.numbers.specs.declared.views.ControllerNumber.{ControllerNumber}
+use Rattle.controller.specs.Shares.{Deed, Held, put_asks, room_asks, taken}
+use Rattle.controller.proofs.Deeds.{AllYes, asks_split, deed_split}
+use Rattle.site.specs.declared.faults.Fault.{Fault}
+use Rattle.site.specs.Faults.{site_fault}
+use Rattle.site.specs.States.{Done, State, done, has_room}
+use Rattle.site.specs.Steps.{at_site, by_controller, placed_at, refuse, share, site_asks}
 use Rattle.protocol.specs.Model as model
 use Rattle.protocol.specs.Model.{Run, Site}
 use Rattle.runs.specs.History.{Event}
@@ -20,17 +25,11 @@ pub stays : {E : Type 0} {says : E → Question → Option Light} {unsettled : L
     → Run n blank m → Bond says unsettled n s h m → Simulated says unsettled n blank s h
 stays {m = m} run bond = record { site = m; run = run; bond = bond }
 
--- all questions are answered yes
-abbrev pub AllYes : List Asked → Type 0
-AllYes [] = Unit {0}
-AllYes (x ∷ xs) = (x.yes_to_it ≡ true) × AllYes xs
-
--- what holds of every refusal, and of the step taken if all is answered yes, holds of the step
-pub asks_split : {A : Type 0} (P : A → Type 0) (qs : List Asked) (refused : ℕ → A) (taken : A)
-    → ((k : ℕ) → P (refused k)) → (AllYes qs → P taken) → P (asks qs refused taken)
-asks_split P [] refused taken none go = go tt
-asks_split P (x ∷ xs) refused taken none go = by x.yes_to_it refl (λ k. asks_split P xs refused taken none k)
-  where
-    by : (b : Bool) → x.yes_to_it ≡ b → ((AllYes xs → P taken) → P (asks xs refused taken)) → P (cond x.yes_to_it (asks xs refused taken) (refused x.number))
-    by true e rest = subst (λ c. P (cond c (asks xs refused taken) (refused x.number))) (sym e) (rest (λ ys. go (e, ys)))
-    by false e rest = subst (λ c. P (cond c (asks xs refused taken) (refused x.number))) (sym e) (none x.number)
+-- what holds of a state that stays, and of what controller i leaves where all was answered yes, holds of its step at the site
+pub acts_split : {A E : Type 0} (P : Done A E → Type 0) (s : State E) (i : ControllerNumber) (deed : ControllerNumber → Held E → Deed A E) → ((f : Fault) → P (done (Err f) s))
+    → (let d = deed i (share s i) in AllYes (site_asks s i) → AllYes d.asks → AllYes (room_asks (has_room s) d.sent) → AllYes (put_asks d.puts s.cells i d.row.views)
+    → P (placed_at s i site_fault (taken i (has_room s) (share s i) d)))
+    → P (by_controller s i deed)
+acts_split P s i deed none go =
+    asks_split P (site_asks s i) (refuse s i) (at_site s i site_fault deed) (λ k. none _)
+    (λ ys. deed_split i (has_room s) (share s i) (λ g. P (placed_at s i site_fault g)) (deed i (share s i)) (λ k. none _) (go ys))

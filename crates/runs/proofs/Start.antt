@@ -5,6 +5,8 @@ use Rattle.std.proofs.lemmas.List.FromFn.{get_or-map-range_with_len}
 use Rattle.std.proofs.lemmas.Bool.{and_parts, cases_lt, eqb-true, leb-true, lt-ltb, ne_eqb}
 use Rattle.std.proofs.lemmas.Option.{none-some}
 use Rattle.std.specs.List.{range_with_len}
+use Rattle.numbers.specs.declared.refusals.Refusal.{Refusal}
+use Rattle.numbers.specs.declared.refusals.Refusal.TheVariants.{CellsUsed, NotMade}
 use Rattle.numbers.specs.declared.rows.Row.{Row}
 use Rattle.numbers.specs.Rows.{zero_row}
 use Rattle.numbers.specs.Views.{controller_of, same_view, view_of}
@@ -94,15 +96,10 @@ module _ {E : Type 0} (blank : ℕ → model.Entry E) where
       record {
         status = first_status_at n c;
         views = λ up. refl;
-        kept = refl;
-        current = refl;
-        promised = refl;
+        cell = record { kept = refl; current = refl; promised = refl };
         complete = refl;
         primary = refl;
-        len = refl;
-        within = omega arith;
-        same = λ j e below read. absurd (not-suc-le-zero below);
-        small = λ j e below read. absurd (not-suc-le-zero below);
+        log = record { len = refl; within = omega arith; same = λ j e below read. absurd (not-suc-le-zero below); small = λ j e below read. absurd (not-suc-le-zero below) };
       }
 
 module _ {E : Type 0} (s : State E) (n cap : ℕ) where
@@ -115,7 +112,7 @@ module _ {E : Type 0} (s : State E) (n cap : ℕ) where
       → (sizes_ok n cap (length s.books) (length s.pool) ≡ true) × (cells_zero s.cells n ≡ true)
   made_yes x = by (sizes_ok n cap (length s.books) (length s.pool)) (cells_zero s.cells n)
     where
-      by : (a b : Bool) → (asks {A = Done (Unit {0}) E} (q 1 a ∷ q 16 b ∷ []) (λ k. record { result = Err (fault_by (controller_of 0) k); state = s }) (record { result = Ok tt; state = made_state })).result ≡ Ok x
+      by : (a b : Bool) → (asks {A = Done (Unit {0}) E} (q NotMade a ∷ q CellsUsed b ∷ []) (λ k. record { result = Err (fault_by (controller_of 0) k); state = s }) (record { result = Ok tt; state = made_state })).result ≡ Ok x
           → (a ≡ true) × (b ≡ true)
       by true true e = (refl, refl)
       by true false e = let z : ◌≡◌ {A = ℕ} 0 1 = cc in let no : ⊥ = omega arith in absurd no
@@ -149,12 +146,12 @@ module _ {E : Type 0} (says : E → Question → Option Light) (unsettled : Ligh
 
     made_is : make_step s n cap ≡ record { result = Ok tt; state = made_state s n cap }
     made_is =
-        ap (λ b. cond b (cond (cells_zero s.cells n) taken (refused 16)) (refused 1)) sizes ∙ ap (λ b. cond b taken (refused 16)) zeros
+        ap (λ b. cond b (cond (cells_zero s.cells n) taken (refused CellsUsed)) (refused NotMade)) sizes ∙ ap (λ b. cond b taken (refused CellsUsed)) zeros
       where
         taken : Done (Unit {0}) E
         taken = record { result = Ok tt; state = made_state s n cap }
 
-        refused : ℕ → Done (Unit {0}) E
+        refused : Refusal → Done (Unit {0}) E
         refused k = record { result = Err (fault_by (controller_of 0) k); state = s }
 
     -- a site that was made belongs to the start of the protocol

@@ -13,9 +13,9 @@ module _ {E : Type 0} where
   pub used_book : {n c : ℕ} {x : Controller} {w : Row} {b : List (Entry E)} {r : Replica E} → ReplicaR n c x w b r → BookR (in_use x b) r.length r.book
   used_book {x = x} {b = b} bonded =
       record {
-        long = simp length-take (omega (arith, bonded.len, bonded.within));
-        same = λ j e at. (let two = item_of_take x.length b j e at in bonded.same j e two.0 two.1);
-        small = λ j e at. (let two = item_of_take x.length b j e at in bonded.small j e two.0 two.1);
+        long = simp length-take (omega (arith, bonded.log.len, bonded.log.within));
+        same = λ j e at. (let two = item_of_take x.length b j e at in bonded.log.same j e two.0 two.1);
+        small = λ j e at. (let two = item_of_take x.length b j e at in bonded.log.small j e two.0 two.1);
       }
 
   pub book_front : (b : List (Entry E)) (l k : ℕ) (f : ℕ → model.Entry E) → k ≤ l → BookR b l f → BookR (take k b) k f

@@ -2,6 +2,7 @@
 use Rattle.std.proofs.Common.{◌≡◌, ℕ, suc, ◌-◌, ◌<◌, ◌≤◌, Bool, true, false, cond, not, ◌&&◌, ltb, leb, ◌≢◌, ◌⊎◌, List, [], ◌∷◌, ◌++◌, get_or, take, Some, None, Ok, Err, Option, sym, refl, ap, ◌∙◌, subst, inl, inr, arith}
 use Rattle.std.proofs.lemmas.Bool.{and_parts, cond_both, false≢true, leb-true, not-true}
 use Rattle.std.proofs.lemmas.Bool.Decides.{nat_tests as tests}
+use Rattle.numbers.specs.declared.refusals.Refusal.TheVariants.{BadForm, WrongView}
 use Rattle.numbers.specs.declared.views.ControllerNumber.{ControllerNumber}
 use Rattle.numbers.specs.declared.views.Stamp.{Stamp}
 use Rattle.numbers.specs.Views.{controller_of, earlier, place_ok, same_view, stamp_ok, view_ok}
@@ -19,6 +20,7 @@ use Rattle.controller.specs.Primaries.{primary_asks}
 use Rattle.controller.specs.Questions.{q, refusal_at}
 use Rattle.controller.specs.Records.{is_primary, is_up, leading, with_status}
 use Rattle.controller.specs.Verdicts.{holds, is_confirmed, is_lost, joined, judged, lengths_of, most, reaches, verdict_of}
+use Rattle.controller.proofs.Deeds.{asks_split}
 use Rattle.site.specs.States.{Done, State, book, row}
 use Rattle.site.specs.Steps.{placed, refuse, settle_step, site_asks}
 use Rattle.protocol.specs.Majorities.{Majority}
@@ -35,7 +37,7 @@ use Rattle.runs.proofs.Frame.{frame_note}
 use Rattle.runs.proofs.Items.{at_item, cases_option, item_of_take, item_some, item_take}
 use Rattle.runs.proofs.Majorities.{majority_taken}
 use Rattle.runs.proofs.Ranges.{member_below, ok_small}
-use Rattle.runs.proofs.Simulated.{Simulated, asks_split, stays}
+use Rattle.runs.proofs.Simulated.{Simulated, stays}
 use Rattle.runs.proofs.Used.{book_front, used_book}
 
 -- What a book that holds a slip's entry has, and what one that does not lacks
@@ -119,9 +121,9 @@ module _ {E : Type 0} (says : E → Question → Option Light) (unsettled : Ligh
       confirms k =
           let parts = and_parts (holds (row s i) (book s i) t) (most s.site.n (reaches t.place.number) (row s i)) k in
           let held = holds_true (row s i) (book s i) t low parts.0 in
-          let len = bonded.len in
+          let len = bonded.log.len in
           let first = held.within in
-          let entry_is = bonded.same (t.place.number - 1) held.entry held.within held.at in
+          let entry_is = bonded.log.same (t.place.number - 1) held.entry held.within held.at in
           let back : suc (t.place.number - 1) - 1 ≡ t.place.number - 1 = omega arith in
           record {
             site = note m (model.confirmed r.current (suc (t.place.number - 1)) r.book);
@@ -153,22 +155,22 @@ module _ {E : Type 0} (says : E → Question → Option Light) (unsettled : Ligh
         where
           lacks : holds (row s i) (book s i) t ≡ false → t.place.number - 1 < r.length → (r.book (t.place.number - 1)).view ≢ code t.view
           lacks z within e =
-              let len = bonded.len in
-              let long = bonded.within in
+              let len = bonded.log.len in
+              let long = bonded.log.within in
               let short : t.place.number - 1 < (row s i).length = omega arith in
               let found = item_some (book s i) (t.place.number - 1) (omega arith) in
-              other_code found.0.view t.view (bonded.small (t.place.number - 1) found.0 short found.1) view_small
+              other_code found.0.view t.view (bonded.log.small (t.place.number - 1) found.0 short found.1) view_small
               (holds_false (row s i) (book s i) t low z short found.0 found.1)
-              (sym (ap (λ y. y.view) (bonded.same (t.place.number - 1) found.0 short found.1)) ∙ e)
+              (sym (ap (λ y. y.view) (bonded.log.same (t.place.number - 1) found.0 short found.1)) ∙ e)
 
   abbrev P : Stamp → Done Verdict E → Type 0
   P t d = Sim d.state (tells s (Settle i t) (stepped Settled d).result d.state ++ h)
 
   pub sim_settle : (t : Stamp) → Sim (step says unsettled s (Settle i t)).state (told says unsettled h s (Settle i t))
   sim_settle t =
-      cond_both (stamp_ok t) (settle_step s i t) (refuse s (controller_of 0) 17) (P t)
+      cond_both (stamp_ok t) (settle_step s i t) (refuse s (controller_of 0) BadForm) (P t)
       (λ ok. asks_split (P t) (site_asks s i) (refuse s i) (placed s (judged s.site.n i (row s i) (book s i) t) s) (λ k. stays run bond)
-      (λ ys. asks_split (λ o. P t (placed s o s)) (primary_asks (row s i) (q 8 (not (earlier (row s i).views.current t.view)) ∷ [])) (λ k. Err (refusal_at i k))
+      (λ ys. asks_split (λ o. P t (placed s o s)) (primary_asks (row s i) (q WrongView (not (earlier (row s i).views.current t.view)) ∷ [])) (λ k. Err (refusal_at i k))
       (Ok (verdict_of s.site.n (row s i) (book s i) t)) (λ k. stays run bond)
       (λ zs. judging ok (member_below s.site.n n i bond.size ys.1.0) zs.0 zs.1.1.0)))
       (λ _. stays run bond)

@@ -1,5 +1,6 @@
 -- One step of a site, and a list of them. Assumes nothing.
 use Rattle.std.specs.Prelude.{cond, List, [], ◌∷◌, Some, Ok, Err, Option, Result}
+use Rattle.numbers.specs.declared.refusals.Refusal.TheVariants.{BadForm}
 use Rattle.numbers.specs.declared.views.ControllerNumber.{ControllerNumber}
 use Rattle.numbers.specs.declared.views.Stamp.{Stamp}
 use Rattle.numbers.specs.Views.{controller_of, stamp_ok}
@@ -34,7 +35,7 @@ verdict_in (StillWaiting slip) = Waiting
 
 -- the slip is taken up from its numbers first
 abbrev pub settle_numbers : {E : Type 0} → State E → ControllerNumber → Stamp → Done Verdict E
-settle_numbers s i t = cond (stamp_ok t) (settle_step s i t) (refuse s (controller_of 0) 17)
+settle_numbers s i t = cond (stamp_ok t) (settle_step s i t) (refuse s (controller_of 0) BadForm)
 
 module _ {E : Type 0} (says : E → Question → Option Answer) (unsettled : Answer) where
   -- what a step gives: its outcome or a fault, and the state after it

@@ -1,6 +1,7 @@
 //! Steps are played on a site: one step, more steps, and a make with all that follows it.
 //! Site, cabinet, books and pool go apart: they are the caller's memory, and contracts name each.
 ghost use Rattle.std.specs.Prelude.{◌≡◌, if◌then◌else◌, List, Ok, Err};
+ghost use Rattle.numbers.specs.declared.refusals.Refusal.TheVariants.{BadForm};
 ghost use Rattle.numbers.specs.Views.{controller_of, stamp_ok};
 ghost use Rattle.cabinet.specs.declared.cells.Cell.{Cell};
 ghost use Rattle.controller.specs.Slips.{slip_of};
@@ -32,7 +33,7 @@ fn verdict(settled: Settled) -> Verdict
 
 // The slip of a stamp, taken up from its numbers.
 fn take_up(stamp: Stamp) -> Result<Slip, Fault>
-    ensures { result ≡ (if stamp_ok stamp then Ok (slip_of stamp) else Err (fault_by (controller_of 0) 17)) }
+    ensures { result ≡ (if stamp_ok stamp then Ok (slip_of stamp) else Err (fault_by (controller_of 0) BadForm)) }
 {
     let (count, controller) = (stamp.view.count.number, stamp.view.controller.number);
     Slip::take_up(count, controller, stamp.place.number).map_err(|refusal| Fault::at_controller(

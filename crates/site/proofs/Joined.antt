@@ -1,6 +1,8 @@
 -- A join that is refused leaves all as it was; one that is taken copies the book, and had room. Assumes nothing.
 use Rattle.std.proofs.Common.{◌≡◌, ℕ, ◌+◌, ◌-◌, ◌*◌, ◌<◌, ◌≤◌, Bool, true, false, cond, leb, List, [], ◌∷◌, length, get_or, take, drop, set, min, Ok, Err, Result, sym, refl, ap, ◌∙◌, arith, rules, ltb-true}
 use lib.Seq.{paste}
+use Rattle.numbers.specs.declared.refusals.Refusal.{Refusal}
+use Rattle.numbers.specs.declared.refusals.Refusal.TheVariants.{DoesNotFit, PoolFull, WrongView}
 use Rattle.numbers.specs.declared.rows.Row.{Row}
 use Rattle.numbers.specs.declared.views.ControllerNumber.{ControllerNumber}
 use Rattle.numbers.specs.declared.views.View.{View}
@@ -57,9 +59,9 @@ module _ {E : Type 0} (i : ControllerNumber) (r : Controller) (book : List (Entr
     led_row = joined_row p v (length log)
 
     abbrev views_asked : List Question
-    views_asked = q 8 (same_view v r.views.promised) ∷ q 8 (earlier r.views.current v) ∷ q 10 (leb (length log) (cap_of book)) ∷ []
+    views_asked = q WrongView (same_view v r.views.promised) ∷ q WrongView (earlier r.views.current v) ∷ q DoesNotFit (leb (length log) (cap_of book)) ∷ []
 
-    abbrev no_join : ℕ → Joined E
+    abbrev no_join : Refusal → Joined E
     no_join k = record { result = Err (refusal_at i k); row = r; book = book; cells = cs }
 
     abbrev put_it : Joined E
@@ -71,24 +73,24 @@ module _ {E : Type 0} (i : ControllerNumber) (r : Controller) (book : List (Entr
     }
 
     -- what holds of every refusal, and of the put where there is room, holds of the join
-    joined_all : (P : Joined E → Type 0) (room : Bool) → ((f : Stopped) → P (record { result = Err f; row = r; book = book; cells = cs })) → P (cond room put_it (no_join 14)) → P (joined i r book cs p led led_book room)
+    joined_all : (P : Joined E → Type 0) (room : Bool) → ((f : Stopped) → P (record { result = Err f; row = r; book = book; cells = cs })) → P (cond room put_it (no_join PoolFull)) → P (joined i r book cs p led led_book room)
     joined_all P room no_one go = by_may (may_join i r led)
       where
         by_may : (x : Result (Unit {0}) Stopped) → P (if_may i r book cs x (followed i r book cs p v log room))
-        by_may (Ok x) = asks_all P views_asked no_join (cond room put_it (no_join 14)) (λ k. no_one (refusal_at i k)) go
+        by_may (Ok x) = asks_all P views_asked no_join (cond room put_it (no_join PoolFull)) (λ k. no_one (refusal_at i k)) go
         by_may (Err f) = no_one f
 
     pub joined_kept : (room : Bool) → Keeps (joined i r book cs p led led_book room)
     joined_kept room = joined_all Keeps room (λ g f e. (refl, (refl, refl))) (by_room room)
       where
-        by_room : (b : Bool) → Keeps (cond b put_it (no_join 14))
+        by_room : (b : Bool) → Keeps (cond b put_it (no_join PoolFull))
         by_room true f e = let h = put_kept cs i r led_row said f e in (h.0, (if_put_kept cs i led_row.views book (copied log book) said f e, h.1))
         by_room false f e = (refl, (refl, refl))
 
     pub joined_taken : (room : Bool) → Takes log room (joined i r book cs p led led_book room)
     joined_taken room = joined_all (Takes log room) room (λ g m e. ((cc), (cc))) (by_room room)
       where
-        by_room : (b : Bool) → Takes log b (cond b put_it (no_join 14))
+        by_room : (b : Bool) → Takes log b (cond b put_it (no_join PoolFull))
         by_room true m e = (if_put_taken cs i led_row.views book (copied log book) said m e, refl)
         by_room false m e = ((cc), (cc))
 

@@ -1,5 +1,7 @@
 pub mod Copied
+pub mod Delivering
 pub mod Joined
 pub mod Kept
 pub mod Lent
+pub mod Placing
 pub mod Stepping

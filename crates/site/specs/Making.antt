@@ -1,6 +1,7 @@
 -- Making a site. Assumes nothing.
 use Rattle.std.specs.Prelude.{ℕ, zero, suc, ◌*◌, Bool, true, false, cond, ◌&&◌, List, [], ◌∷◌, map, length, Ok, Err, ◌==◌, nat_le, nat_lt}
 use Rattle.std.specs.List.{range_with_len}
+use Rattle.numbers.specs.declared.refusals.Refusal.TheVariants.{CellsUsed, NotMade}
 use Rattle.numbers.specs.declared.rows.Row.{Row}
 use Rattle.numbers.specs.Rows.{zero_row}
 use Rattle.numbers.specs.Views.{controller_of, same_view}
@@ -40,6 +41,6 @@ no_site = record { made = false; n = 0; cap = 0; pool = 0; count = 0; rows = map
 
 abbrev pub make_step : {E : Type 0} → State E → ℕ → ℕ → Done (Unit {0}) E
 make_step s n cap =
-    asks (q 1 (sizes_ok n cap (length s.books) (length s.pool)) ∷ q 16 (cells_zero s.cells n) ∷ [])
+    asks (q NotMade (sizes_ok n cap (length s.books) (length s.pool)) ∷ q CellsUsed (cells_zero s.cells n) ∷ [])
     (λ k. record { result = Err (fault_by (controller_of 0) k); state = s })
     (record { result = Ok tt; state = record { site = made_site n cap (length s.pool); cells = s.cells; books = s.books; pool = s.pool } })

@@ -1,7 +1,8 @@
 -- The whole state of a site: its record, the cells, the books and the pool. Assumes nothing.
 use Rattle.std.specs.Prelude.{◌≡◌, ℕ, ◌+◌, ◌*◌, ◌<◌, ◌≤◌, Bool, true, false, not, ◌&&◌, ◌⊎◌, List, ◌++◌, length, take, drop, Result, ◌==◌, nat_le, nat_lt, slice_index_or, slice_set}
+use Rattle.numbers.specs.declared.refusals.Refusal.TheVariants.{NoSuchController, NoSuchMessage, NotMade}
 use Rattle.numbers.specs.declared.views.ControllerNumber.{ControllerNumber}
-use Rattle.numbers.specs.Refusals.{refusal}
+use Rattle.numbers.specs.declared.refusals.Refusal.{Refusal}
 use Rattle.entries.specs.declared.book.Entry.{Entry}
 use Rattle.entries.specs.declared.book.Message.{Message}
 use Rattle.cabinet.specs.declared.cells.Cell.{Cell}
@@ -82,11 +83,11 @@ module _ {E : Type 0} where
   sent s m = record { site = with_count s.site (s.site.count + 1); cells = s.cells; books = s.books; pool = slice_set s.pool s.site.count m }
 
 -- the fault of question k: it names the acting controller, or the message
-abbrev pub fault_by : ControllerNumber → ℕ → Fault
-fault_by i k = record { refusal = refusal k; named = By i }
+abbrev pub fault_by : ControllerNumber → Refusal → Fault
+fault_by i k = record { refusal = k; named = By i }
 
-abbrev pub fault_about : ℕ → ℕ → Fault
-fault_about j k = record { refusal = refusal k; named = About j }
+abbrev pub fault_about : ℕ → Refusal → Fault
+fault_about j k = record { refusal = k; named = About j }
 
 -- What the first two questions tell
 
@@ -103,8 +104,8 @@ pub record IsMember (x : Site) (books pool : ℕ) (i : ControllerNumber) (m : Me
 -- why i is none: question 1, then question 2
 abbrev pub MemberFails : Site → ℕ → ℕ → ControllerNumber → Fault → Type 0
 MemberFails x books pool i e =
-    ((made_with x books pool ≡ false) × (e ≡ fault_by i 1))
-    ⊎ ((made_with x books pool ≡ true) × ((is_member x.n i ≡ false) × (e ≡ fault_by i 2)))
+    ((made_with x books pool ≡ false) × (e ≡ fault_by i NotMade))
+    ⊎ ((made_with x books pool ≡ true) × ((is_member x.n i ≡ false) × (e ≡ fault_by i NoSuchController)))
 
 -- a controller of the site, and another one
 pub record IsPair (x : Site) (books pool : ℕ) (i b : ControllerNumber) (m : Member × Member) : Type 0 where
@@ -117,7 +118,7 @@ abbrev pub PairFails : Site → ℕ → ℕ → ControllerNumber → ControllerN
 PairFails x books pool i b e =
     MemberFails x books pool i e
     ⊎ ((made_with x books pool ≡ true) × ((is_member x.n i ≡ true)
-    × (((is_member x.n b ≡ false) × (e ≡ fault_by i 2)) ⊎ ((is_member x.n b ≡ true) × ((not (i.number == b.number) ≡ false) × (e ≡ fault_by i 2))))))
+    × (((is_member x.n b ≡ false) × (e ≡ fault_by i NoSuchController)) ⊎ ((is_member x.n b ≡ true) × ((not (i.number == b.number) ≡ false) × (e ≡ fault_by i NoSuchController))))))
 
 -- the pool of the site, which is made with memory of these lengths, has a message j
 pub record HasMessage (x : Site) (books pool j : ℕ) : Type 0 where
@@ -129,5 +130,5 @@ pub record HasMessage (x : Site) (books pool j : ℕ) : Type 0 where
 -- why there is no message j: question 1, then question 3
 abbrev pub MessageFails : Site → ℕ → ℕ → ℕ → Fault → Type 0
 MessageFails x books pool j e =
-    ((made_with x books pool ≡ false) × (e ≡ fault_about j 1))
-    ⊎ ((made_with x books pool ≡ true) × ((nat_lt j x.count ≡ false) × (e ≡ fault_about j 3)))
+    ((made_with x books pool ≡ false) × (e ≡ fault_about j NotMade))
+    ⊎ ((made_with x books pool ≡ true) × ((nat_lt j x.count ≡ false) × (e ≡ fault_about j NoSuchMessage)))

@@ -21,7 +21,7 @@ impl Site {
         ensures { (cs : List Cell) → crash_step (state self.old cs books.now pool.now) i ≡ done result (state self.new cs books.now pool.now) }
     {
         let me = self.member(books, pool, i)?;
-        controller::crash(me, &mut self.rows[me.index()])?;
+        controller::crash::<E>(me, &mut self.rows[me.index()])?;
         Ok(())
     }
 
@@ -36,7 +36,7 @@ impl Site {
         ensures { recover_step (state self.old (C.cells cab.now).list books.now pool.now) i ≡ done result (state self.new (C.cells cab.now).list books.now pool.now) }
     {
         let me = self.member(books, pool, i)?;
-        controller::recover(me, &mut self.rows[me.index()], cab)?;
+        controller::recover::<E, C>(me, &mut self.rows[me.index()], cab)?;
         Ok(())
     }
 }

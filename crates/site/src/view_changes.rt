@@ -22,7 +22,7 @@ impl Site {
         ensures { call_step (state self.old (C.cells cab.old).list books.now pool.now) i ≡ done result (state self.new (C.cells cab.new).list books.now pool.now) }
     {
         let me = self.member(books, pool, i)?;
-        controller::call(me, &mut self.rows[me.index()], cab)?;
+        controller::call::<E, C>(me, &mut self.rows[me.index()], cab)?;
         Ok(())
     }
 
