@@ -19,7 +19,8 @@ use Rattle.controller.specs.declared.verdicts.Verdict.{Verdict}
 use Rattle.controller.specs.declared.verdicts.Verdict.TheVariants.{Confirmed, Lost, Waiting as Undecided}
 use Rattle.controller.specs.Books.{at_place, in_use}
 use Rattle.controller.specs.Primaries.{primary_asks}
-use Rattle.controller.specs.Questions.{asks, q, refusal_at}
+use Rattle.controller.specs.Questions.{ask}
+use Rattle.controller.specs.Shares.{Deed, Held, gave, held, nothing_done}
 use Rattle.controller.specs.Slips.{stamp_on}
 
 -- an acknowledged length of at least k; any acknowledged length
@@ -67,8 +68,11 @@ module _ {E : Type 0} where
   abbrev pub verdict_of : ℕ → Controller → List (Entry E) → Stamp → Verdict
   verdict_of n r book s = cond (is_confirmed n r book s) Confirmed (cond (is_lost n r book s) Lost Undecided)
 
+  abbrev pub judge : ℕ → Held E → Stamp → Deed Verdict E
+  judge n h s = nothing_done h (primary_asks h.row (ask (not (earlier h.row.views.current s.view)) WrongView ∷ [])) (verdict_of n h.row h.book s)
+
   abbrev pub judged : ℕ → ControllerNumber → Controller → List (Entry E) → Stamp → Result Verdict Fault
-  judged n i r book s = asks (primary_asks r (q WrongView (not (earlier r.views.current s.view)) ∷ [])) (λ k. Err (refusal_at i k)) (Ok (verdict_of n r book s))
+  judged n i r book s = let h = held r book [] in (gave i true h (judge n h s)).result
 
 -- the slip is spent, unless it waits or the step is refused
 abbrev pub with_slip : Slip → Verdict → Settled

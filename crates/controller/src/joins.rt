@@ -1,6 +1,8 @@
 //! A waiting controller joins the view of an active primary.
 ghost use Rattle.std.specs.Prelude.{◌≡◌};
-ghost use Rattle.controller.specs.Joins.{followed, joined, may_join};
+ghost use Rattle.controller.specs.Books.{in_use};
+ghost use Rattle.controller.specs.Joins.{follow as follows, join as joins, may_join, taken_over};
+ghost use Rattle.controller.specs.Shares.{gave, handed_message, held};
 
 use crate::books::{capacity, used};
 use crate::faults::Fault;
@@ -25,9 +27,7 @@ pub fn follow<E: Copy, C: Cabinet>(
     log: &[Entry<E>],
     room: bool,
 ) -> Result<Message<E>, Fault>
-    ensures result { result ≡ (followed me.number row.old book.now (C.cells cab.old).list primary view log.now room).result }
-    ensures row { row.new ≡ (followed me.number row.old book.now (C.cells cab.old).list primary view log.now room).row }
-    ensures cells { (C.cells cab.new).list ≡ (followed me.number row.old book.now (C.cells cab.old).list primary view log.now room).cells }
+    ensures { gave me.number room (held row.old book.now (C.cells cab.old).list) (follows me.number (held row.old book.now (C.cells cab.old).list) primary view log.now) ≡ handed_message (λ m. tt) result (held row.new (taken_over result log.now book.now) (C.cells cab.new).list) }
 {
     ask(me, view == row.views.promised, Refusal::WrongView)?;
     ask(me, row.views.current < view, Refusal::WrongView)?;
@@ -81,9 +81,7 @@ pub fn join<E: Copy, C: Cabinet>(
     led_book: &[Entry<E>],
     room: bool,
 ) -> Result<Message<E>, Fault>
-    ensures result { result ≡ (joined me.number row.old book.now (C.cells cab.old).list leader.number led.now led_book.now room).result }
-    ensures row { row.new ≡ (joined me.number row.old book.now (C.cells cab.old).list leader.number led.now led_book.now room).row }
-    ensures cells { (C.cells cab.new).list ≡ (joined me.number row.old book.now (C.cells cab.old).list leader.number led.now led_book.now room).cells }
+    ensures { gave me.number room (held row.old book.now (C.cells cab.old).list) (joins me.number (held row.old book.now (C.cells cab.old).list) leader.number led.now led_book.now) ≡ handed_message (λ m. tt) result (held row.new (taken_over result (in_use led.now led_book.now) book.now) (C.cells cab.new).list) }
 {
     may_join(me, row, led)?;
     follow(

@@ -1,8 +1,10 @@
 //! What a primary does with its book: take a change, pass an entry on; and what any active
 //! controller answers from it.
-ghost use Rattle.std.specs.Prelude.{◌≡◌, [], Ok, Err};
-ghost use Rattle.controller.specs.Primaries.{changed, looked_up, passed, primary_asks};
+ghost use Rattle.std.specs.Prelude.{◌≡◌, Bool, List, [], Ok, Err};
+ghost use Rattle.controller.specs.Primaries.{change as changes, lookup as looks_up, pass as passes, primary_asks};
+ghost use Rattle.cabinet.specs.declared.cells.Cell.{Cell};
 ghost use Rattle.controller.specs.Questions.{asks, refusal_at};
+ghost use Rattle.controller.specs.Shares.{gave, handed, handed_message, held};
 
 use crate::books::{append, capacity, entry_at, used};
 use crate::faults::Fault;
@@ -29,9 +31,7 @@ pub fn change<E: Copy>(
     book: &mut [Entry<E>],
     x: E,
 ) -> Result<Slip, Fault>
-    ensures result { result ≡ (changed me.number row.old book.old x).result }
-    ensures row { row.new ≡ (changed me.number row.old book.old x).row }
-    ensures book { book.new ≡ (changed me.number row.old book.old x).book }
+    ensures { (room : Bool) (cs : List Cell) → gave me.number room (held row.old book.old cs) (changes me.number (held row.old book.old cs) x) ≡ handed result (held row.new book.new cs) }
 {
     ask_primary(me, row)?;
     ask(me, row.length < capacity(book), Refusal::BookFull)?;
@@ -50,7 +50,7 @@ pub fn pass<E: Copy>(
     place: Place,
     room: bool,
 ) -> Result<Message<E>, Fault>
-    ensures { result ≡ passed me.number row.now book.now to place room }
+    ensures { (cs : List Cell) → gave me.number room (held row.now book.now cs) (passes me.number (held row.now book.now cs) to place) ≡ handed_message (λ m. tt) result (held row.now book.now cs) }
 {
     ask_primary(me, row)?;
     let entry = entry_at(row, book, place).ok_or(refused(me, Refusal::DoesNotFit))?;
@@ -70,7 +70,7 @@ pub fn lookup<E: Kind>(
     book: &[Entry<E>],
     question: Question,
 ) -> Result<Answer, Fault>
-    ensures { result ≡ looked_up E.says E.UNSETTLED me.number row.now book.now question }
+    ensures { (room : Bool) (cs : List Cell) → gave me.number room (held row.now book.now cs) (looks_up E.says E.UNSETTLED (held row.now book.now cs) question) ≡ handed result (held row.now book.now cs) }
 {
     ask(me, row.is_up(), Refusal::WrongPower)?;
     ask(me, row.is_active(), Refusal::WrongStatus)?;

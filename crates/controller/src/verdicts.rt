@@ -1,8 +1,10 @@
 //! What becomes of a slip: confirmed, lost or waiting.
-ghost use Rattle.std.specs.Prelude.{◌≡◌, ℕ, Bool, Option};
+ghost use Rattle.std.specs.Prelude.{◌≡◌, ℕ, Bool, List, Option};
+ghost use Rattle.cabinet.specs.declared.cells.Cell.{Cell};
+ghost use Rattle.controller.specs.Shares.{gave, handed, held};
 ghost use Rattle.std.specs.Fn.{FnReturnsAt};
 ghost use Rattle.forming.specs.Counting.{Answers};
-ghost use Rattle.controller.specs.Verdicts.{ThreeWays, holds as book_holds, is_confirmed, is_lost, judged, most as most_of, settled, verdict_of, with_slip};
+ghost use Rattle.controller.specs.Verdicts.{ThreeWays, holds as book_holds, is_confirmed, is_lost, judge as judges, most as most_of, settled, verdict_of, with_slip};
 
 use crate::books::entry_at;
 use crate::faults::Fault;
@@ -47,7 +49,7 @@ pub fn judge<E: Copy>(
     book: &[Entry<E>],
     stamp: Stamp,
 ) -> Result<Verdict, Fault>
-    ensures { result ≡ judged me.n me.number row.now book.now stamp }
+    ensures { (room : Bool) (cs : List Cell) → gave me.number room (held row.now book.now cs) (judges me.n (held row.now book.now cs) stamp) ≡ handed result (held row.now book.now cs) }
 {
     ask_primary(me, row)?;
     ask(me, row.views.current >= stamp.view, Refusal::WrongView)?;

@@ -1,11 +1,12 @@
 //! Calling a view, inviting to it and forming it.
 ghost use Rattle.std.specs.Prelude.{◌≡◌, Bool, true, false, List, MatchResult};
 ghost use Rattle.entries.specs.declared.book.Entry.{Entry};
-ghost use Rattle.controller.specs.Shares.{gave, handed, held};
+ghost use Rattle.cabinet.specs.declared.cells.Cell.{Cell};
+ghost use Rattle.controller.specs.Shares.{gave, handed, handed_message, held};
 ghost use Rattle.numbers.specs.Rows.{row_ok};
 ghost use Rattle.cabinet.specs.Cells.{is_worn};
 ghost use Rattle.controller.specs.Records.{reply_of};
-ghost use Rattle.controller.specs.ViewChanges.{call as calls, form_choice, formed, invited, put_after, put_fails};
+ghost use Rattle.controller.specs.ViewChanges.{call as calls, form as forms, form_choice, invite as invites, put_after, put_fails};
 
 use crate::faults::Fault;
 use crate::questions::{ask, refused};
@@ -74,7 +75,7 @@ pub fn invite<E>(
     to: ControllerNumber,
     room: bool,
 ) -> Result<Message<E>, Fault>
-    ensures { result ≡ invited me.number row.now to room }
+    ensures { (b : List (Entry E)) (cs : List Cell) → gave me.number room (held row.now b cs) (invites me.number (held row.now b cs) to) ≡ handed_message (λ m. tt) result (held row.now b cs) }
 {
     ask(me, row.is_up(), Refusal::WrongPower)?;
     ask(me, row.is_manager(), Refusal::WrongStatus)?;
@@ -101,8 +102,7 @@ fn chosen(me: Member, row: &Controller) -> Option<ControllerNumber>
 
 /// Forms the view by the rules: the chosen controller is to open it, and this one waits.
 pub fn form<E>(me: Member, row: &mut Controller, room: bool) -> Result<Message<E>, Fault>
-    ensures result { result ≡ (formed me.n me.number row.old room).result }
-    ensures row { row.new ≡ (formed {E = E} me.n me.number row.old room).row }
+    ensures { (b : List (Entry E)) (cs : List Cell) → gave me.number room (held row.old b cs) (forms me.n me.number (held row.old b cs)) ≡ handed_message (λ m. m.addressee) result (held row.new b cs) }
 {
     ask(me, row.is_up(), Refusal::WrongPower)?;
     ask(me, row.is_manager(), Refusal::WrongStatus)?;
