@@ -1,4 +1,4 @@
--- A controller's part of the books: its capacity and the entries in use. Assumes nothing.
+-- A controller's part of the books: its capacity and the entries in use.
 use Rattle.std.specs.Prelude.{ℕ, zero, suc, ◌+◌, ◌-◌, min, cond, List, [], ◌∷◌, length, take, Some, None, Option, ◌==◌, slice_set}
 use Rattle.numbers.specs.declared.views.ControllerNumber.{ControllerNumber}
 use Rattle.entries.specs.declared.book.Entry.{Entry}
@@ -25,14 +25,11 @@ module _ {E : Type 0} where
   abbrev pub in_use : Controller → List (Entry E) → List (Entry E)
   in_use r book = take r.length book
 
--- the record with one entry more; a primary's own acknowledged length is its length
-
-abbrev own_length : ControllerNumber → ℕ → Status → Status
-own_length i l Down = Down
-own_length i l Waiting = Waiting
-own_length i l (Manager a) = Manager a
-own_length i l Backup = Backup
+-- a primary's own acknowledged length is its length
+abbrev pub own_length : ControllerNumber → ℕ → Status → Status
 own_length i l (Primary lengths) = Primary (slice_set lengths i.number (Some l))
+own_length i l s = s
 
+-- the record with one entry more
 abbrev pub appended : ControllerNumber → Controller → Controller
-appended i r = record { status = own_length i (r.length + 1) r.status; views = r.views; complete = r.complete; length = r.length + 1; primary = r.primary }
+appended i r = record r { status = own_length i (r.length + 1) r.status; length = r.length + 1 }

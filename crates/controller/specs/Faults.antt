@@ -1,4 +1,4 @@
--- The fault of a worn cell: the cell, and the controller that it belongs to. Assumes nothing.
+-- The fault of a worn cell: the cell, and the controller that it belongs to.
 use Rattle.std.specs.Prelude.{ℕ}
 use Rattle.numbers.specs.Views.{controller_of}
 use Rattle.controller.specs.declared.faults.Fault.{Fault}

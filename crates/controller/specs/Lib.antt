@@ -1,13 +1,15 @@
+pub mod Actions
 pub mod Books
 pub mod Deliveries
 pub mod Faults
 pub mod Joins
+pub mod Lookups
 pub mod Messages
 pub mod Power
 pub mod Primaries
+pub mod Puts
 pub mod Questions
 pub mod Records
-pub mod Shares
 pub mod Slips
 pub mod Verdicts
 pub mod ViewChanges

@@ -1,4 +1,4 @@
--- Which messages keep to a site of n controllers and cap entries a book. Assumes nothing.
+-- Messages, and which of them keep to a site of n controllers and cap entries a book.
 use Rattle.std.specs.Prelude.{ℕ, Bool, true, ◌&&◌, nat_le, nat_lt}
 use Rattle.numbers.specs.declared.views.ControllerNumber.{ControllerNumber}
 use Rattle.numbers.specs.declared.views.View.{View}
@@ -29,3 +29,7 @@ body_ok n cap (Acknowledgement l) = nat_le l cap
 -- its controllers, those of its views too, are below n, its view counts at most 16,383, and its place or length at most cap
 abbrev pub message_ok : {E : Type 0} → ℕ → ℕ → Message E → Bool
 message_ok n cap m = below n m.sender && below n m.addressee && view_below n m.view && body_ok n cap m.body
+
+-- a message of view v
+abbrev pub message : {E : Type 0} → ControllerNumber → ControllerNumber → View → Body E → Message E
+message i b v x = record { sender = i; addressee = b; view = v; body = x }

@@ -1,4 +1,4 @@
--- A controller's record, and what can be read off it. Assumes nothing.
+-- A controller's record, and what can be read off it.
 use Rattle.std.specs.Prelude.{ℕ, Bool, true, false, cond, List, [], replicate, Some, None, Option, ◌==◌, slice_set}
 use Rattle.numbers.specs.declared.views.ControllerNumber.{ControllerNumber}
 use Rattle.numbers.specs.Rows.{zero_row}
@@ -27,54 +27,34 @@ first_record i = record { status = first_status (i.number == 0); views = zero_ro
 
 abbrev pub up : Status → Bool
 up Down = false
-up Waiting = true
-up (Manager a) = true
-up Backup = true
-up (Primary l) = true
+up s = true
 
 abbrev pub waiting : Status → Bool
-waiting Down = false
 waiting Waiting = true
-waiting (Manager a) = false
-waiting Backup = false
-waiting (Primary l) = false
+waiting s = false
 
 abbrev pub managing : Status → Bool
-managing Down = false
-managing Waiting = false
 managing (Manager a) = true
-managing Backup = false
-managing (Primary l) = false
+managing s = false
 
 abbrev pub active : Status → Bool
-active Down = false
-active Waiting = false
-active (Manager a) = false
 active Backup = true
 active (Primary l) = true
+active s = false
 
 abbrev pub leading : Status → Bool
-leading Down = false
-leading Waiting = false
-leading (Manager a) = false
-leading Backup = false
 leading (Primary l) = true
+leading s = false
 
 -- the answers that a manager counts; [] of any other status
 abbrev pub answers_of : Status → List (Option Reply)
-answers_of Down = []
-answers_of Waiting = []
 answers_of (Manager a) = a
-answers_of Backup = []
-answers_of (Primary l) = []
+answers_of s = []
 
--- the lengths that a primary has acknowledged; [] of any other status
+-- the lengths that each controller has acknowledged to a primary; [] of any other status
 abbrev pub lengths_of : Status → List (Option ℕ)
-lengths_of Down = []
-lengths_of Waiting = []
-lengths_of (Manager a) = []
-lengths_of Backup = []
 lengths_of (Primary l) = l
+lengths_of s = []
 
 abbrev pub is_up : Controller → Bool
 is_up r = up r.status
@@ -93,7 +73,7 @@ is_primary r = leading r.status
 
 -- the same record with another status
 abbrev pub with_status : Controller → Status → Controller
-with_status r s = record { status = s; views = r.views; complete = r.complete; length = r.length; primary = r.primary }
+with_status r s = record r { status = s }
 
 -- what controller i says of itself to a call: a normal answer if its book is complete, else a crash answer
 abbrev pub reply_of : ControllerNumber → Controller → Reply

@@ -1,4 +1,4 @@
--- A slip and its stamp. Assumes nothing.
+-- A slip and its stamp.
 use Rattle.numbers.specs.declared.views.Stamp.{Stamp}
 use Rattle.controller.specs.declared.slips.Slip.{Slip}
 

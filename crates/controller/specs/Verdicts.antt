@@ -1,4 +1,4 @@
--- What becomes of a slip: confirmed, lost or waiting. Assumes nothing.
+-- What becomes of a slip: confirmed, lost or waiting.
 use Rattle.std.specs.Prelude.{◌≡◌, ℕ, Bool, true, false, cond, not, ◌&&◌, List, [], ◌∷◌, take, Some, None, Ok, Err, Option, Result, nat_le}
 use Rattle.numbers.specs.declared.refusals.Refusal.TheVariants.{WrongView}
 use Rattle.numbers.specs.declared.views.ControllerNumber.{ControllerNumber}
@@ -8,11 +8,10 @@ use Rattle.numbers.specs.Majorities.{majority_of}
 use Rattle.numbers.specs.Views.{earlier, same_view}
 use Rattle.entries.specs.declared.book.Entry.{Entry}
 use Rattle.forming.specs.Counting.{count}
-use Rattle.controller.specs.declared.faults.Fault.{Fault}
 use Rattle.controller.specs.declared.records.Controller.{Controller}
-use Rattle.controller.specs.declared.records.Status.{Status}
-use Rattle.controller.specs.declared.records.Status.TheVariants.{Down, Waiting, Manager, Backup, Primary}
-use Rattle.controller.specs.declared.slips.Settled.{Settled}
+use Rattle.controller.specs.declared.outcomes.Outcome.{Outcome}
+use Rattle.controller.specs.declared.outcomes.Outcome.TheVariants.{Settled}
+use Rattle.controller.specs.declared.slips.Settled.{Settled as Settlement}
 use Rattle.controller.specs.declared.slips.Settled.TheVariants.{Confirmed as IsConfirmed, Lost as IsLost, Waiting as StillWaiting}
 use Rattle.controller.specs.declared.slips.Slip.{Slip}
 use Rattle.controller.specs.declared.verdicts.Verdict.{Verdict}
@@ -20,8 +19,8 @@ use Rattle.controller.specs.declared.verdicts.Verdict.TheVariants.{Confirmed, Lo
 use Rattle.controller.specs.Books.{at_place, in_use}
 use Rattle.controller.specs.Primaries.{primary_asks}
 use Rattle.controller.specs.Questions.{ask}
-use Rattle.controller.specs.Shares.{Deed, Held, gave, held, nothing_done}
-use Rattle.controller.specs.Slips.{stamp_on}
+use Rattle.controller.specs.Actions.{Action, Own, only_asks}
+use Rattle.controller.specs.Records.{lengths_of}
 
 -- an acknowledged length of at least k; any acknowledged length
 abbrev pub reaches : ℕ → Option ℕ → Bool
@@ -32,20 +31,13 @@ abbrev pub joined : Option ℕ → Bool
 joined None = false
 joined (Some l) = true
 
--- the lengths that a primary has of controllers 0 to n - 1
-abbrev lengths_at : ℕ → Status → List (Option ℕ)
-lengths_at n Down = []
-lengths_at n Waiting = []
-lengths_at n (Manager a) = []
-lengths_at n Backup = []
-lengths_at n (Primary l) = take n l
-
-unfoldable pub lengths_of : ℕ → Controller → List (Option ℕ)
-lengths_of n r = lengths_at n r.status
+-- the lengths that a primary has of controllers 0 to n - 1; [] of any other status
+unfoldable pub lengths_in : ℕ → Controller → List (Option ℕ)
+lengths_in n r = take n (lengths_of r.status)
 
 -- a majority of n pass a test of their acknowledged lengths
 abbrev pub most : ℕ → (Option ℕ → Bool) → Controller → Bool
-most n test r = nat_le (majority_of n) (count test (lengths_of n r))
+most n test r = nat_le (majority_of n) (count test (lengths_in n r))
 
 module _ {E : Type 0} where
   abbrev is_of : View → Option (Entry E) → Bool
@@ -68,24 +60,22 @@ module _ {E : Type 0} where
   abbrev pub verdict_of : ℕ → Controller → List (Entry E) → Stamp → Verdict
   verdict_of n r book s = cond (is_confirmed n r book s) Confirmed (cond (is_lost n r book s) Lost Undecided)
 
-  abbrev pub judge : ℕ → Held E → Stamp → Deed Verdict E
-  judge n h s = nothing_done h (primary_asks h.row (ask (not (earlier h.row.views.current s.view)) WrongView ∷ [])) (verdict_of n h.row h.book s)
+abbrev pub settle : {E : Type 0} → ℕ → Stamp → ControllerNumber → Own E → Action E
+settle n s i o = record (only_asks o (primary_asks o.row (ask (not (earlier o.row.views.current s.view)) WrongView ∷ []))) {
+  gives = Settled (verdict_of n o.row o.book s);
+}
 
-  abbrev pub judged : ℕ → ControllerNumber → Controller → List (Entry E) → Stamp → Result Verdict Fault
-  judged n i r book s = let h = held r book [] in (gave i true h (judge n h s)).result
-
--- the slip is spent, unless it waits or the step is refused
-abbrev pub with_slip : Slip → Verdict → Settled
+-- the slip is spent where it is confirmed or lost; else it comes back
+abbrev pub with_slip : Slip → Verdict → Settlement
 with_slip s Confirmed = IsConfirmed
 with_slip s Lost = IsLost
 with_slip s Undecided = StillWaiting s
 
-abbrev pub settled_by : Slip → Result Verdict Fault → Result Settled (Fault × Slip)
-settled_by s (Ok v) = Ok (with_slip s v)
+-- what a settle's result is for who brought the slip; a refusal hands it back as well
+abbrev pub settled_by : {E F : Type 0} → Slip → Result (Outcome E) F → Result Settlement (F × Slip)
+settled_by s (Ok (Settled v)) = Ok (with_slip s v)
+settled_by s (Ok x) = Ok (StillWaiting s)
 settled_by s (Err f) = Err (f, s)
-
-abbrev pub settled : {E : Type 0} → ℕ → ControllerNumber → Controller → List (Entry E) → Slip → Result Settled (Fault × Slip)
-settled n i r book s = settled_by s (judged n i r book (stamp_on s))
 
 -- the three conditions exclude one another and leave no case out
 pub record ThreeWays (confirmed lost : Bool) (v : Verdict) : Type 0 where

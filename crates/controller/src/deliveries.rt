@@ -4,15 +4,17 @@ ghost use Rattle.controller.specs.Records.{is_manager, is_primary, answers_of, l
 ghost use Rattle.controller.specs.Books.{cap_of};
 ghost use Rattle.entries.specs.declared.book.Entry.{Entry};
 ghost use Rattle.cabinet.specs.declared.cells.Cell.{Cell};
-ghost use Rattle.controller.specs.Shares.{gave, handed_reply, held};
-ghost use Rattle.controller.specs.Deliveries.{delivers, takes, takes_acknowledgement, takes_answer, takes_entry, takes_form, takes_invitation};
+ghost use Rattle.controller.specs.declared.outcomes.Outcome.TheVariants.{Delivered};
+ghost use Rattle.controller.specs.Actions.{effect, handed_reply, own};
+ghost use Rattle.controller.specs.Deliveries.{deliver as delivers, takes, takes_acknowledgement, takes_answer, takes_entry, takes_form, takes_invitation};
 ghost use Rattle.controller.specs.Messages.{body_ok, message_ok, reply_ok, view_below};
 
 use crate::books::{append, capacity};
 use crate::faults::Fault;
+use crate::puts::put_views;
 use crate::questions::{ask, refused};
 use crate::records::{Controller, Status, only};
-use crate::view_changes::{put_views, reply};
+use crate::view_changes::reply;
 use cabinet::Cabinet;
 use entries::{Body, Entry, Message, Reply};
 use forming::Member;
@@ -77,7 +79,7 @@ fn take_invitation<E: Copy, C: Cabinet>(
     message: Message<E>,
     room: bool,
 ) -> Result<Option<Message<E>>, Fault>
-    ensures { (b : List (Entry E)) → gave me.number room (held row.old b (C.cells cab.old).list) (takes_invitation me.number (held row.old b (C.cells cab.old).list) message) ≡ handed_reply message result (held row.new b (C.cells cab.new).list) }
+    ensures { (b : List (Entry E)) → effect me.number room (own row.old b (C.cells cab.old).list) (takes_invitation message) ≡ handed_reply (Delivered message) result (own row.new b (C.cells cab.new).list) }
 {
     ask(me, row.views.promised < message.view, Refusal::WrongView)?;
     ask(me, room, Refusal::PoolFull)?;
@@ -118,7 +120,7 @@ fn take_answer<E: Copy>(
     reply: Reply,
 ) -> Result<Option<Message<E>>, Fault>
     requires { (message.sender.number < 7) × (is_manager row.old ≡ true) }
-    ensures { (room : Bool) (b : List (Entry E)) (cs : List Cell) → gave me.number room (held row.old b cs) (takes_answer me.number (held row.old b cs) message (answers_of row.old.status) reply) ≡ handed_reply message result (held row.new b cs) }
+    ensures { (room : Bool) (b : List (Entry E)) (cs : List Cell) → effect me.number room (own row.old b cs) (λ i o. takes_answer message i o (answers_of row.old.status) reply) ≡ handed_reply (Delivered message) result (own row.new b cs) }
 {
     let from = message.sender.number as usize;
     ask(me, message.view == row.views.promised, Refusal::WrongView)?;
@@ -136,7 +138,7 @@ fn take_form<E: Copy, C: Cabinet>(
     cab: &mut C,
     message: Message<E>,
 ) -> Result<Option<Message<E>>, Fault>
-    ensures { (room : Bool) (b : List (Entry E)) → gave me.number room (held row.old b (C.cells cab.old).list) (takes_form me.number (held row.old b (C.cells cab.old).list) message) ≡ handed_reply message result (held row.new b (C.cells cab.new).list) }
+    ensures { (room : Bool) (b : List (Entry E)) → effect me.number room (own row.old b (C.cells cab.old).list) (takes_form message) ≡ handed_reply (Delivered message) result (own row.new b (C.cells cab.new).list) }
 {
     ask(me, message.view == row.views.promised, Refusal::WrongView)?;
     ask(me, row.complete, Refusal::IncompleteBook)?;
@@ -164,7 +166,7 @@ fn take_entry<E: Copy>(
     room: bool,
 ) -> Result<Option<Message<E>>, Fault>
     requires { place.number ≤ cap_of book.old }
-    ensures { (cs : List Cell) → gave me.number room (held row.old book.old cs) (takes_entry me.number (held row.old book.old cs) message place entry) ≡ handed_reply message result (held row.new book.new cs) }
+    ensures { (cs : List Cell) → effect me.number room (own row.old book.old cs) (λ i o. takes_entry message i o place entry) ≡ handed_reply (Delivered message) result (own row.new book.new cs) }
 {
     ask(me, message.view == row.views.current, Refusal::WrongView)?;
     ask(
@@ -191,7 +193,7 @@ fn take_acknowledgement<E: Copy>(
     length: u16,
 ) -> Result<Option<Message<E>>, Fault>
     requires { (message.sender.number < 7) × (is_primary row.old ≡ true) }
-    ensures { (room : Bool) (b : List (Entry E)) (cs : List Cell) → gave me.number room (held row.old b cs) (takes_acknowledgement me.number (held row.old b cs) message (lengths_of row.old.status) length) ≡ handed_reply message result (held row.new b cs) }
+    ensures { (room : Bool) (b : List (Entry E)) (cs : List Cell) → effect me.number room (own row.old b cs) (λ i o. takes_acknowledgement message i o (lengths_of row.old.status) length) ≡ handed_reply (Delivered message) result (own row.new b cs) }
 {
     let from = message.sender.number as usize;
     ask(me, message.view == row.views.current, Refusal::WrongView)?;
@@ -214,7 +216,7 @@ fn take<E: Copy, C: Cabinet>(
     room: bool,
 ) -> Result<Option<Message<E>>, Fault>
     requires { message_ok me.n (cap_of book.old) message ≡ true }
-    ensures { gave me.number room (held row.old book.old (C.cells cab.old).list) (takes me.number (held row.old book.old (C.cells cab.old).list) message) ≡ handed_reply message result (held row.new book.new (C.cells cab.new).list) }
+    ensures { effect me.number room (own row.old book.old (C.cells cab.old).list) (takes message) ≡ handed_reply (Delivered message) result (own row.new book.new (C.cells cab.new).list) }
 {
     match (row.status, message.body) {
         (Status::Down, _) => Err(refused(me, Refusal::WrongPower)),
@@ -245,7 +247,7 @@ pub fn deliver<E: Copy, C: Cabinet>(
     message: Message<E>,
     room: bool,
 ) -> Result<Option<Message<E>>, Fault>
-    ensures { gave me.number room (held row.old book.old (C.cells cab.old).list) (delivers me.number (held row.old book.old (C.cells cab.old).list) message me.n) ≡ handed_reply message result (held row.new book.new (C.cells cab.new).list) }
+    ensures { effect me.number room (own row.old book.old (C.cells cab.old).list) (delivers me.n message) ≡ handed_reply (Delivered message) result (own row.new book.new (C.cells cab.new).list) }
 {
     let sizes = Sizes {
         n: me.n(),

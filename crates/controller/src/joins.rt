@@ -1,14 +1,17 @@
 //! A waiting controller joins the view of an active primary.
-ghost use Rattle.std.specs.Prelude.{◌≡◌};
+ghost use Rattle.std.specs.Prelude.{◌≡◌, [], Ok, Err};
 ghost use Rattle.controller.specs.Books.{in_use};
-ghost use Rattle.controller.specs.Joins.{follow as follows, join as joins, may_join, taken_over};
-ghost use Rattle.controller.specs.Shares.{gave, handed_message, held};
+ghost use Rattle.controller.specs.declared.outcomes.Outcome.TheVariants.{Done};
+ghost use Rattle.controller.specs.declared.faults.Fault.TheVariants.{Refused};
+ghost use Rattle.controller.specs.Actions.{effect, handed_message, own};
+ghost use Rattle.controller.specs.Joins.{follow as follows, join as joins, join_asks, taken_over};
+ghost use Rattle.controller.specs.Questions.{asks};
 
 use crate::books::{capacity, used};
 use crate::faults::Fault;
+use crate::puts::put_views;
 use crate::questions::ask;
 use crate::records::{Controller, Status};
-use crate::view_changes::put_views;
 use cabinet::Cabinet;
 use entries::{Body, Entry, Message};
 use forming::Member;
@@ -27,7 +30,7 @@ pub fn follow<E: Copy, C: Cabinet>(
     log: &[Entry<E>],
     room: bool,
 ) -> Result<Message<E>, Fault>
-    ensures { gave me.number room (held row.old book.now (C.cells cab.old).list) (follows me.number (held row.old book.now (C.cells cab.old).list) primary view log.now) ≡ handed_message (λ m. tt) result (held row.new (taken_over result log.now book.now) (C.cells cab.new).list) }
+    ensures { effect me.number room (own row.old book.now (C.cells cab.old).list) (follows primary view log.now) ≡ handed_message (λ _. Done) result (own row.new (taken_over result log.now book.now) (C.cells cab.new).list) }
 {
     ask(me, view == row.views.promised, Refusal::WrongView)?;
     ask(me, row.views.current < view, Refusal::WrongView)?;
@@ -60,7 +63,7 @@ pub fn follow<E: Copy, C: Cabinet>(
 
 // Whether the one may join and the other be joined.
 fn may_join(me: Member, row: &Controller, led: &Controller) -> Result<(), Fault>
-    ensures { result ≡ may_join me.number row.now led.now }
+    ensures { result ≡ asks (join_asks row.now led.now []) (λ k. Err (Refused k me.number)) (Ok tt) }
 {
     ask(me, row.is_up(), Refusal::WrongPower)?;
     ask(me, led.is_up(), Refusal::WrongPower)?;
@@ -81,7 +84,7 @@ pub fn join<E: Copy, C: Cabinet>(
     led_book: &[Entry<E>],
     room: bool,
 ) -> Result<Message<E>, Fault>
-    ensures { gave me.number room (held row.old book.now (C.cells cab.old).list) (joins me.number (held row.old book.now (C.cells cab.old).list) leader.number led.now led_book.now) ≡ handed_message (λ m. tt) result (held row.new (taken_over result (in_use led.now led_book.now) book.now) (C.cells cab.new).list) }
+    ensures { effect me.number room (own row.old book.now (C.cells cab.old).list) (joins leader.number led.now (in_use led.now led_book.now)) ≡ handed_message (λ _. Done) result (own row.new (taken_over result (in_use led.now led_book.now) book.now) (C.cells cab.new).list) }
 {
     may_join(me, row, led)?;
     follow(

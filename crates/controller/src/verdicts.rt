@@ -1,10 +1,12 @@
 //! What becomes of a slip: confirmed, lost or waiting.
 ghost use Rattle.std.specs.Prelude.{◌≡◌, ℕ, Bool, List, Option};
 ghost use Rattle.cabinet.specs.declared.cells.Cell.{Cell};
-ghost use Rattle.controller.specs.Shares.{gave, handed, held};
+ghost use Rattle.controller.specs.declared.outcomes.Outcome.TheVariants.{Settled as Said};
+ghost use Rattle.controller.specs.Actions.{as_outcome, effect, handed, own};
+ghost use Rattle.controller.specs.Slips.{stamp_on};
 ghost use Rattle.std.specs.Fn.{FnReturnsAt};
 ghost use Rattle.forming.specs.Counting.{Answers};
-ghost use Rattle.controller.specs.Verdicts.{ThreeWays, holds as book_holds, is_confirmed, is_lost, judge as judges, most as most_of, settled, verdict_of, with_slip};
+ghost use Rattle.controller.specs.Verdicts.{ThreeWays, holds as book_holds, is_confirmed, is_lost, most as most_of, settle as settles, settled_by, verdict_of, with_slip};
 
 use crate::books::entry_at;
 use crate::faults::Fault;
@@ -24,7 +26,7 @@ pub enum Verdict {
 }
 
 // Whether a majority of the lengths that a primary has passes a test.
-#[tactic(auto, unfolding(crate::specs::Verdicts::lengths_of))]
+#[tactic(auto, unfolding(crate::specs::Verdicts::lengths_in))]
 fn most<F: Fn(&Option<u16>) -> bool>(me: Member, row: &Controller, test: F) -> bool
     requires { F.IsAlwaysCallable test }
     ensures { (passes : Option ℕ → Bool) → Answers (FnReturnsAt F.Fn test) passes → result ≡ most_of me.n passes row.now }
@@ -49,7 +51,7 @@ pub fn judge<E: Copy>(
     book: &[Entry<E>],
     stamp: Stamp,
 ) -> Result<Verdict, Fault>
-    ensures { (room : Bool) (cs : List Cell) → gave me.number room (held row.now book.now cs) (judges me.n (held row.now book.now cs) stamp) ≡ handed result (held row.now book.now cs) }
+    ensures { (room : Bool) (cs : List Cell) → effect me.number room (own row.now book.now cs) (settles me.n stamp) ≡ handed (as_outcome Said result) (own row.now book.now cs) }
 {
     ask_primary(me, row)?;
     ask(me, row.views.current >= stamp.view, Refusal::WrongView)?;
@@ -81,7 +83,7 @@ pub fn settle<E: Copy>(
     book: &[Entry<E>],
     slip: Slip,
 ) -> Result<Settled, (Fault, Slip)>
-    ensures { result ≡ settled me.n me.number row.now book.now slip }
+    ensures { (room : Bool) (cs : List Cell) → settled_by slip (effect me.number room (own row.now book.now cs) (settles me.n (stamp_on slip))).result ≡ result }
 {
     match judge(me, row, book, slip.stamp()) {
         Err(fault) => Err((fault, slip)),

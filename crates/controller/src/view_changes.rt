@@ -1,34 +1,20 @@
 //! Calling a view, inviting to it and forming it.
-ghost use Rattle.std.specs.Prelude.{◌≡◌, Bool, true, false, List, MatchResult};
+ghost use Rattle.std.specs.Prelude.{◌≡◌, Bool, List};
 ghost use Rattle.entries.specs.declared.book.Entry.{Entry};
 ghost use Rattle.cabinet.specs.declared.cells.Cell.{Cell};
-ghost use Rattle.controller.specs.Shares.{gave, handed, handed_message, held};
-ghost use Rattle.numbers.specs.Rows.{row_ok};
-ghost use Rattle.cabinet.specs.Cells.{is_worn};
+ghost use Rattle.controller.specs.declared.outcomes.Outcome.TheVariants.{Done, Formed};
+ghost use Rattle.controller.specs.Actions.{as_outcome, effect, handed, handed_message, own};
 ghost use Rattle.controller.specs.Records.{reply_of};
-ghost use Rattle.controller.specs.ViewChanges.{call as calls, form as forms, form_choice, invite as invites, put_after, put_fails};
+ghost use Rattle.controller.specs.ViewChanges.{call as calls, form as forms, form_choice, invite as invites};
 
 use crate::faults::Fault;
+use crate::puts::put_views;
 use crate::questions::{ask, refused};
 use crate::records::{Controller, Status, only};
-use cabinet::{Cabinet, Worn};
+use cabinet::Cabinet;
 use entries::{Body, Message, Reply};
 use forming::{Member, choice_of_first};
-use numbers::{CellRecord, ControllerNumber, Refusal, Row, View, ViewCount};
-
-/// Puts two views into the controller's own cell. A worn cell is refused before views that do not
-/// keep the form of a record.
-pub fn put_views<C: Cabinet>(me: Member, cab: &mut C, views: Row) -> Result<(), Fault>
-    ensures result { MatchResult result (λ _. (is_worn (C.cells cab.old).list me.number.number ≡ false) × (row_ok views ≡ true)) (λ e. put_fails (C.cells cab.old).list me.number views e) }
-    ensures cells { (C.cells cab.new).list ≡ put_after (C.cells cab.old).list me.number views }
-{
-    let cell = me.number().number;
-    match CellRecord::try_from(views) {
-        Ok(new) => Ok(cab.put(cell, new)?),
-        Err(_) if cab.worn(cell) => Err(Fault::from(Worn { cell })),
-        Err(refusal) => Err(refused(me, refusal)),
-    }
-}
+use numbers::{ControllerNumber, Refusal, Row, View, ViewCount};
 
 /// What the controller says of itself to a call.
 pub fn reply(me: Member, row: &Controller) -> Reply
@@ -48,7 +34,7 @@ pub fn reply(me: Member, row: &Controller) -> Reply
 
 /// Calls the next view of this controller: promises it, and manages it with its own answer counted.
 pub fn call<E, C: Cabinet>(me: Member, row: &mut Controller, cab: &mut C) -> Result<(), Fault>
-    ensures { (room : Bool) (b : List (Entry E)) → gave me.number room (held row.old b (C.cells cab.old).list) (calls me.number (held row.old b (C.cells cab.old).list)) ≡ handed result (held row.new b (C.cells cab.new).list) }
+    ensures { (room : Bool) (b : List (Entry E)) → effect me.number room (own row.old b (C.cells cab.old).list) calls ≡ handed (as_outcome (λ _. Done) result) (own row.new b (C.cells cab.new).list) }
 {
     ask(me, row.is_up(), Refusal::WrongPower)?;
     let count = row.views.promised.count.number;
@@ -75,7 +61,7 @@ pub fn invite<E>(
     to: ControllerNumber,
     room: bool,
 ) -> Result<Message<E>, Fault>
-    ensures { (b : List (Entry E)) (cs : List Cell) → gave me.number room (held row.now b cs) (invites me.number (held row.now b cs) to) ≡ handed_message (λ m. tt) result (held row.now b cs) }
+    ensures { (b : List (Entry E)) (cs : List Cell) → effect me.number room (own row.now b cs) (invites to) ≡ handed_message (λ _. Done) result (own row.now b cs) }
 {
     ask(me, row.is_up(), Refusal::WrongPower)?;
     ask(me, row.is_manager(), Refusal::WrongStatus)?;
@@ -102,7 +88,7 @@ fn chosen(me: Member, row: &Controller) -> Option<ControllerNumber>
 
 /// Forms the view by the rules: the chosen controller is to open it, and this one waits.
 pub fn form<E>(me: Member, row: &mut Controller, room: bool) -> Result<Message<E>, Fault>
-    ensures { (b : List (Entry E)) (cs : List Cell) → gave me.number room (held row.old b cs) (forms me.n me.number (held row.old b cs)) ≡ handed_message (λ m. m.addressee) result (held row.new b cs) }
+    ensures { (b : List (Entry E)) (cs : List Cell) → effect me.number room (own row.old b cs) (forms me.n) ≡ handed_message (λ m. Formed m.addressee) result (own row.new b cs) }
 {
     ask(me, row.is_up(), Refusal::WrongPower)?;
     ask(me, row.is_manager(), Refusal::WrongStatus)?;

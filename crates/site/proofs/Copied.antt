@@ -1,4 +1,4 @@
--- The beginning of one part of the books copied over that of another, which lies apart from it. Assumes nothing.
+-- The beginning of one part of the books copied over that of another, which lies apart from it.
 use Rattle.std.proofs.Common.{◌≡◌, ℕ, zero, suc, ◌+◌, ◌-◌, ◌*◌, ◌<◌, ◌≤◌, ◌⊎◌, min, List, [], ◌∷◌, ◌++◌, length, take, drop, sym, ap, ◌∙◌, inl, inr, ⊎_elim, mul-le-mul_right, arith}
 use native.Mathlib.Nat.{min-zero, suc-min-suc, zero-min}
 use lib.Seq.{paste}

@@ -1,4 +1,4 @@
--- What a lent row or part leaves of the table and the memory that it was lent from. Assumes nothing.
+-- What a lent row or part leaves of the table and the memory that it was lent from.
 use Rattle.std.proofs.Common.{◌≡◌, ℕ, ◌+◌, ◌-◌, ◌*◌, List, [], ◌++◌, get_or, take, drop, set, sym, ap, ◌∙◌, arith}
 use borrow.Rule.Slice.PartMut.{Post-is, put_mid}
 use Rattle.std.proofs.lemmas.List.{drop-drop, take-append-drop}
@@ -32,6 +32,9 @@ pub record LentTo (x : Site) (k i : ControllerNumber) (j a b : ℕ) : Type 0 whe
   pub row : j ≡ k.number
   pub from : a ≡ k.number * x.cap
   pub to : b ≡ k.number * x.cap + x.cap
+
+pub lent_to : {x : Site} {k i : ControllerNumber} {j a b : ℕ} → k ≡ i → j ≡ k.number → a ≡ k.number * x.cap → b ≡ k.number * x.cap + x.cap → LentTo x k i j a b
+lent_to who row from to = record { who = who; row = row; from = from; to = to }
 
 module _ {A : Type 0} (x : Site) (books : List A) (k i : ControllerNumber) (j a b : ℕ) (given : LentTo x k i j a b) where
   -- what is said of them is said of controller i's

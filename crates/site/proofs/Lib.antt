@@ -1,7 +1,6 @@
 pub mod Copied
 pub mod Delivering
-pub mod Joined
-pub mod Kept
+pub mod Joining
 pub mod Lent
 pub mod Placing
-pub mod Stepping
+pub mod Settling

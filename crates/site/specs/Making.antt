@@ -1,4 +1,4 @@
--- Making a site. Assumes nothing.
+-- Making a site.
 use Rattle.std.specs.Prelude.{ℕ, zero, suc, ◌*◌, Bool, true, false, cond, ◌&&◌, List, [], ◌∷◌, map, length, Ok, Err, ◌==◌, nat_le, nat_lt}
 use Rattle.std.specs.List.{range_with_len}
 use Rattle.numbers.specs.declared.refusals.Refusal.TheVariants.{CellsUsed, NotMade}
@@ -8,7 +8,7 @@ use Rattle.numbers.specs.Views.{controller_of, same_view}
 use Rattle.cabinet.specs.declared.cells.Cell.{Cell}
 use Rattle.cabinet.specs.Cells.{cell_at}
 use Rattle.controller.specs.declared.records.Controller.{Controller}
-use Rattle.controller.specs.Questions.{asks, q}
+use Rattle.controller.specs.Questions.{ask, asks}
 use Rattle.controller.specs.Records.{down_record, first_record}
 use Rattle.site.specs.declared.records.Site.{Site}
 use Rattle.site.specs.States.{Done, State, fault_by}
@@ -41,6 +41,6 @@ no_site = record { made = false; n = 0; cap = 0; pool = 0; count = 0; rows = map
 
 abbrev pub make_step : {E : Type 0} → State E → ℕ → ℕ → Done (Unit {0}) E
 make_step s n cap =
-    asks (q NotMade (sizes_ok n cap (length s.books) (length s.pool)) ∷ q CellsUsed (cells_zero s.cells n) ∷ [])
+    asks (ask (sizes_ok n cap (length s.books) (length s.pool)) NotMade ∷ ask (cells_zero s.cells n) CellsUsed ∷ [])
     (λ k. record { result = Err (fault_by (controller_of 0) k); state = s })
-    (record { result = Ok tt; state = record { site = made_site n cap (length s.pool); cells = s.cells; books = s.books; pool = s.pool } })
+    (record { result = Ok tt; state = record s { site = made_site n cap (length s.pool) } })

@@ -1,5 +1,5 @@
--- The whole state of a site: its record, the cells, the books and the pool. Assumes nothing.
-use Rattle.std.specs.Prelude.{◌≡◌, ℕ, ◌+◌, ◌*◌, ◌<◌, ◌≤◌, Bool, true, false, not, ◌&&◌, ◌⊎◌, List, ◌++◌, length, take, drop, Result, ◌==◌, nat_le, nat_lt, slice_index_or, slice_set}
+-- The whole state of a site: its record, the cells, the books and the pool.
+use Rattle.std.specs.Prelude.{◌≡◌, ℕ, ◌+◌, ◌*◌, ◌<◌, ◌≤◌, Bool, true, false, not, ◌&&◌, ◌⊎◌, Some, None, Option, List, ◌++◌, length, take, drop, Result, ◌==◌, nat_le, nat_lt, slice_index_or, slice_set}
 use Rattle.numbers.specs.declared.refusals.Refusal.TheVariants.{NoSuchController, NoSuchMessage, NotMade}
 use Rattle.numbers.specs.declared.views.ControllerNumber.{ControllerNumber}
 use Rattle.numbers.specs.declared.refusals.Refusal.{Refusal}
@@ -9,6 +9,7 @@ use Rattle.cabinet.specs.declared.cells.Cell.{Cell}
 use Rattle.forming.specs.declared.members.Member.{Member}
 use Rattle.forming.specs.Members.{is_member}
 use Rattle.controller.specs.declared.records.Controller.{Controller}
+use Rattle.controller.specs.Actions.{Own}
 use Rattle.controller.specs.Records.{down_record}
 use Rattle.site.specs.declared.faults.Fault.{Fault}
 use Rattle.site.specs.declared.faults.Named.TheVariants.{Message as About, Controller as By}
@@ -58,29 +59,26 @@ module _ {E : Type 0} (s : State E) where
   abbrev pub book : ControllerNumber → List (Entry E)
   book i = part s.books s.site.cap i.number
 
--- the same site with other rows, or another number of messages
+-- the same site with another record of controller i, or another number of messages
 abbrev pub with_row : Site → ControllerNumber → Controller → Site
-with_row x i r = record { made = x.made; n = x.n; cap = x.cap; pool = x.pool; count = x.count; rows = slice_set x.rows i.number r }
+with_row x i r = record x { rows = slice_set x.rows i.number r }
 
 abbrev pub with_count : Site → ℕ → Site
-with_count x k = record { made = x.made; n = x.n; cap = x.cap; pool = x.pool; count = k; rows = x.rows }
+with_count x k = record x { count = k }
 
 module _ {E : Type 0} where
-  -- controller i's record alone has changed
-  abbrev pub put_row : State E → ControllerNumber → Controller → State E
-  put_row s i r = record { site = with_row s.site i r; cells = s.cells; books = s.books; pool = s.pool }
-
-  -- controller i's record and cell have changed
-  abbrev pub put_cell : State E → ControllerNumber → Controller → List Cell → State E
-  put_cell s i r cs = record { site = with_row s.site i r; cells = cs; books = s.books; pool = s.pool }
-
-  -- controller i's record, book and cell have changed
-  abbrev pub put_all : State E → ControllerNumber → Controller → List (Entry E) → List Cell → State E
-  put_all s i r b cs = record { site = with_row s.site i r; cells = cs; books = with_part s.books s.site.cap i.number b; pool = s.pool }
+  -- the state with what controller i has after its step: its record, its part of the books, and the cells
+  abbrev pub put_share : State E → ControllerNumber → Own E → State E
+  put_share s i o = record s { site = with_row s.site i o.row; cells = o.cells; books = with_part s.books s.site.cap i.number o.book }
 
   -- a message more at the end of the pool
   abbrev pub sent : State E → Message E → State E
-  sent s m = record { site = with_count s.site (s.site.count + 1); cells = s.cells; books = s.books; pool = slice_set s.pool s.site.count m }
+  sent s m = record s { site = with_count s.site (s.site.count + 1); pool = slice_set s.pool s.site.count m }
+
+  -- what is sent, if anything
+  abbrev pub sends : State E → Option (Message E) → State E
+  sends s None = s
+  sends s (Some m) = sent s m
 
 -- the fault of question k: it names the acting controller, or the message
 abbrev pub fault_by : ControllerNumber → Refusal → Fault

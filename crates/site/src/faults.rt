@@ -1,6 +1,6 @@
 //! Why a call of the site was refused, and what the fault names.
 ghost use Rattle.std.specs.Prelude.{◌≡◌};
-ghost use Rattle.site.specs.Faults.{site_fault, named_by};
+ghost use Rattle.site.specs.Faults.{about_message, site_fault};
 
 use controller::Fault as ControllerFault;
 use numbers::{ControllerNumber, Refusal};
@@ -48,6 +48,16 @@ impl Fault {
             named: Named::Message { number },
         }
     }
+
+    // At a delivery the message is named in place of the acting controller; a worn cell stays named.
+    pub(crate) fn about(self, number: u16) -> Fault
+        ensures { result ≡ about_message number self }
+    {
+        match self.named {
+            Named::Controller { .. } => Fault::at_message(self.refusal, number),
+            _ => self,
+        }
+    }
 }
 
 /// A controller's fault gains the question's number; that of a worn cell is 15.
@@ -65,15 +75,5 @@ impl From<ControllerFault> for Fault {
                 controller,
             } => Fault::at_controller(refusal, controller),
         }
-    }
-}
-
-// A controller's fault at a delivery names the message, but for a worn cell.
-pub(crate) fn of_message(fault: ControllerFault, number: u16) -> Fault
-    ensures { result ≡ named_by number fault }
-{
-    match fault {
-        ControllerFault::Worn { .. } => fault.into(),
-        ControllerFault::Refused { refusal, .. } => Fault::at_message(refusal, number),
     }
 }

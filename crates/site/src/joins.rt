@@ -1,6 +1,8 @@
 //! A waiting controller joins the view of another, and takes over its book.
 ghost use Rattle.std.specs.Prelude.{◌≡◌, ◌⊎◌, ◌+◌, ◌≤◌, drop, length, min};
 ghost use lib.Seq.{paste};
+ghost use Rattle.controller.specs.declared.outcomes.Outcome.TheVariants.{Done};
+ghost use Rattle.controller.specs.Actions.{as_outcome};
 ghost use Rattle.site.specs.States.{done, state};
 ghost use Rattle.site.specs.Steps.{join_step};
 
@@ -47,7 +49,7 @@ impl Site {
         i: ControllerNumber,
         primary: ControllerNumber,
     ) -> Result<(), Fault>
-        ensures { join_step (state self.old (C.cells cab.old).list books.old pool.old) i primary ≡ done result (state self.new (C.cells cab.new).list books.new pool.new) }
+        ensures { join_step (state self.old (C.cells cab.old).list books.old pool.old) i primary ≡ done (as_outcome (λ _. Done) result) (state self.new (C.cells cab.new).list books.new pool.new) }
     {
         let (me, leader) = self.pair(books, pool, i, primary)?;
         let room = self.has_room(pool);

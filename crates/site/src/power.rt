@@ -1,8 +1,11 @@
 //! A power cut, and the recovery from it.
 ghost use Rattle.std.specs.Prelude.{◌≡◌, List};
 ghost use Rattle.cabinet.specs.declared.cells.Cell.{Cell};
+ghost use Rattle.controller.specs.declared.outcomes.Outcome.TheVariants.{Done};
+ghost use Rattle.controller.specs.Actions.{as_outcome};
+ghost use Rattle.controller.specs.Power.{crash as crashes, recover as recovers};
 ghost use Rattle.site.specs.States.{done, state};
-ghost use Rattle.site.specs.Steps.{crash_step, recover_step};
+ghost use Rattle.site.specs.Steps.{step_at};
 
 use crate::faults::Fault;
 use crate::records::Site;
@@ -18,7 +21,7 @@ impl Site {
         pool: &[Message<E>],
         i: ControllerNumber,
     ) -> Result<(), Fault>
-        ensures { (cs : List Cell) → crash_step (state self.old cs books.now pool.now) i ≡ done result (state self.new cs books.now pool.now) }
+        ensures { (cs : List Cell) → step_at (state self.old cs books.now pool.now) i crashes ≡ done (as_outcome (λ _. Done) result) (state self.new cs books.now pool.now) }
     {
         let me = self.member(books, pool, i)?;
         controller::crash::<E>(me, &mut self.rows[me.index()])?;
@@ -33,7 +36,7 @@ impl Site {
         pool: &[Message<E>],
         i: ControllerNumber,
     ) -> Result<(), Fault>
-        ensures { recover_step (state self.old (C.cells cab.now).list books.now pool.now) i ≡ done result (state self.new (C.cells cab.now).list books.now pool.now) }
+        ensures { step_at (state self.old (C.cells cab.now).list books.now pool.now) i recovers ≡ done (as_outcome (λ _. Done) result) (state self.new (C.cells cab.now).list books.now pool.now) }
     {
         let me = self.member(books, pool, i)?;
         controller::recover::<E, C>(me, &mut self.rows[me.index()], cab)?;

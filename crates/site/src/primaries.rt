@@ -1,8 +1,14 @@
 //! What a primary does with its book, and what any active controller answers from it.
 ghost use Rattle.std.specs.Prelude.{◌≡◌, List};
 ghost use Rattle.cabinet.specs.declared.cells.Cell.{Cell};
+ghost use Rattle.controller.specs.declared.outcomes.Outcome.TheVariants.{Answered, Changed, Done};
+ghost use Rattle.controller.specs.Actions.{as_outcome};
+ghost use Rattle.controller.specs.Lookups.{lookup as looks_up};
+ghost use Rattle.controller.specs.Primaries.{change as changes, pass as passes};
+ghost use Rattle.controller.specs.Slips.{stamp_on};
+ghost use Rattle.controller.specs.Verdicts.{settle as settles, settled_by};
 ghost use Rattle.site.specs.States.{done, state};
-ghost use Rattle.site.specs.Steps.{change_step, lookup_step, pass_step, settle_slip};
+ghost use Rattle.site.specs.Steps.{step_at, step_between};
 
 use crate::faults::Fault;
 use crate::records::Site;
@@ -19,7 +25,7 @@ impl Site {
         i: ControllerNumber,
         x: E,
     ) -> Result<Slip, Fault>
-        ensures { (cs : List Cell) → change_step (state self.old cs books.old pool.now) i x ≡ done result (state self.new cs books.new pool.now) }
+        ensures { (cs : List Cell) → step_at (state self.old cs books.old pool.now) i (changes x) ≡ done (as_outcome (λ slip. Changed (stamp_on slip)) result) (state self.new cs books.new pool.now) }
     {
         let me = self.member(books, pool, i)?;
         let part = self.part(me);
@@ -37,7 +43,7 @@ impl Site {
         to: ControllerNumber,
         place: Place,
     ) -> Result<(), Fault>
-        ensures { (cs : List Cell) → pass_step (state self.old cs books.now pool.old) i to place ≡ done result (state self.new cs books.now pool.new) }
+        ensures { (cs : List Cell) → step_between (state self.old cs books.now pool.old) i to (passes to place) ≡ done (as_outcome (λ _. Done) result) (state self.new cs books.now pool.new) }
     {
         let (me, other) = self.pair(books, pool, i, to)?;
         let room = self.has_room(pool);
@@ -57,7 +63,7 @@ impl Site {
         i: ControllerNumber,
         slip: Slip,
     ) -> Result<Settled, (Fault, Slip)>
-        ensures { (cs : List Cell) → settle_slip (state self.now cs books.now pool.now) i slip ≡ result }
+        ensures { (cs : List Cell) → settled_by slip (step_at (state self.now cs books.now pool.now) i (settles self.now.n (stamp_on slip))).result ≡ result }
     {
         // the slip comes back with the fault, and no closure can capture it
         let me = match self.member(books, pool, i) {
@@ -77,7 +83,7 @@ impl Site {
         i: ControllerNumber,
         question: Question,
     ) -> Result<Answer, Fault>
-        ensures { (cs : List Cell) → lookup_step (state self.now cs books.now pool.now) E.says E.UNSETTLED i question ≡ done result (state self.now cs books.now pool.now) }
+        ensures { (cs : List Cell) → step_at (state self.now cs books.now pool.now) i (looks_up E.says E.UNSETTLED question) ≡ done (as_outcome Answered result) (state self.now cs books.now pool.now) }
     {
         let me = self.member(books, pool, i)?;
         let book = &books[self.part(me)];

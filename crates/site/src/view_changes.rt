@@ -1,8 +1,11 @@
 //! Calling a view, inviting to it and forming it.
 ghost use Rattle.std.specs.Prelude.{◌≡◌, List};
 ghost use Rattle.cabinet.specs.declared.cells.Cell.{Cell};
+ghost use Rattle.controller.specs.declared.outcomes.Outcome.TheVariants.{Done, Formed};
+ghost use Rattle.controller.specs.Actions.{as_outcome};
+ghost use Rattle.controller.specs.ViewChanges.{call as calls, form as forms, invite as invites};
 ghost use Rattle.site.specs.States.{done, state};
-ghost use Rattle.site.specs.Steps.{call_step, form_step, invite_step};
+ghost use Rattle.site.specs.Steps.{step_at, step_between};
 
 use crate::faults::Fault;
 use crate::records::Site;
@@ -19,7 +22,7 @@ impl Site {
         pool: &[Message<E>],
         i: ControllerNumber,
     ) -> Result<(), Fault>
-        ensures { call_step (state self.old (C.cells cab.old).list books.now pool.now) i ≡ done result (state self.new (C.cells cab.new).list books.now pool.now) }
+        ensures { step_at (state self.old (C.cells cab.old).list books.now pool.now) i calls ≡ done (as_outcome (λ _. Done) result) (state self.new (C.cells cab.new).list books.now pool.now) }
     {
         let me = self.member(books, pool, i)?;
         controller::call::<E, C>(me, &mut self.rows[me.index()], cab)?;
@@ -34,7 +37,7 @@ impl Site {
         i: ControllerNumber,
         to: ControllerNumber,
     ) -> Result<(), Fault>
-        ensures { (cs : List Cell) → invite_step (state self.old cs books.now pool.old) i to ≡ done result (state self.new cs books.now pool.new) }
+        ensures { (cs : List Cell) → step_between (state self.old cs books.now pool.old) i to (invites to) ≡ done (as_outcome (λ _. Done) result) (state self.new cs books.now pool.new) }
     {
         let (me, other) = self.pair(books, pool, i, to)?;
         let room = self.has_room(pool);
@@ -50,7 +53,7 @@ impl Site {
         pool: &mut [Message<E>],
         i: ControllerNumber,
     ) -> Result<ControllerNumber, Fault>
-        ensures { (cs : List Cell) → form_step (state self.old cs books.now pool.old) i ≡ done result (state self.new cs books.now pool.new) }
+        ensures { (cs : List Cell) → step_at (state self.old cs books.now pool.old) i (forms self.old.n) ≡ done (as_outcome Formed result) (state self.new cs books.now pool.new) }
     {
         let me = self.member(books, pool, i)?;
         let room = self.has_room(pool);

@@ -1,11 +1,26 @@
-use Rattle.std.proofs.Common.{get_or, sym, rules}
+use Rattle.std.proofs.Common.{List, [], get_or, refl, sym, ap, ◌∙◌, arith, rules}
+use Rattle.entries.specs.declared.book.Entry.{Entry}
+use Rattle.controller.specs.Actions.{effect, own}
+use Rattle.controller.specs.ViewChanges.{form}
 use Rattle.controller.specs.Records.{down_record}
-use Rattle.site.proofs.Kept.{formed_kept}
-use Rattle.std.proofs.lemmas.List.{set-get_or}
+use Rattle.site.specs.States.{state}
+use Rattle.site.proofs.Placing.{at_go, row_acts, row_room}
 use Rattle.site.proofs.records.Site.form.Goals as goal
 
 pub returns-in_err-message : goal.returns-in_err-message
 returns-in_err-message g c cs =
-    let kept = formed_kept {E = g.row.E.Denot} c.in_ok-me.me.n c.in_ok-me.me.number (get_or c.args.self.now.rows c.index.result down_record) c.has_room-room.result c.in_err-message.field-0.0 (sym c.in_err-message.ensures.result) in
-    let back = set-get_or c.args.self.now.rows c.index.result down_record in
+    let told = λ (b : List (Entry g.row.E.Denot)). ap (λ z. effect c.in_ok-me.me.number c.has_room-room.result (own (get_or c.args.self.now.rows c.index.result down_record) b cs) (form z)) (sym c.in_ok-me.ensures.size) ∙ c.in_err-message.ensures b cs in
+    let e = at_go (state c.args.self.now cs c.args.books.now c.args.pool.now) _ (form c.args.self.now.n) c.in_ok-me.ensures ∙ row_acts _ _ _ _ _ _ _ _ (form c.args.self.now.n) _ _ c.has_room-room.ensures c.in_ok-me.ensures.number c.index.ensures.value _ _ told in
+    search rules
+
+pub send-requires : goal.send-requires
+send-requires g c =
+    let told = λ (b : List (Entry g.row.E.Denot)). ap (λ z. effect c.in_ok-me.me.number c.has_room-room.result (own (get_or c.args.self.now.rows c.index.result down_record) b []) (form z)) (sym c.in_ok-me.ensures.size) ∙ c.in_ok-message.ensures b [] in
+    let less = row_room c.args.self.now [] c.args.books.now c.args.pool.now _ _ _ _ (form c.args.self.now.n) _ _ c.has_room-room.ensures c.in_ok-me.ensures.number c.index.ensures.value _ _ told refl in
+    (less, omega (arith, less, c.in_ok-me.ensures.few))
+
+pub returns : goal.returns
+returns g c cs =
+    let told = λ (b : List (Entry g.row.E.Denot)). ap (λ z. effect c.in_ok-me.me.number c.has_room-room.result (own (get_or c.args.self.now.rows c.index.result down_record) b cs) (form z)) (sym c.in_ok-me.ensures.size) ∙ c.in_ok-message.ensures b cs in
+    let e = at_go (state c.args.self.now cs c.args.books.now c.args.pool.now) _ (form c.args.self.now.n) c.in_ok-me.ensures ∙ row_acts _ _ _ _ _ _ _ _ (form c.args.self.now.n) _ _ c.has_room-room.ensures c.in_ok-me.ensures.number c.index.ensures.value _ _ told in
     search rules

@@ -1,10 +1,17 @@
-use Rattle.std.proofs.Common.{rules}
+use Rattle.std.proofs.Common.{refl, ◌∙◌, rules}
 use Rattle.controller.specs.Power.{recover}
-use Rattle.site.proofs.Placing.{row_step}
+use Rattle.site.specs.States.{has_room, state}
+use Rattle.site.proofs.Placing.{at_go, row_acts}
 use Rattle.site.proofs.records.Site.recover.Goals as goal
 
 pub returns : goal.returns
-returns g c = let e = row_step _ _ _ _ _ _ _ recover _ _ _ c.in_ok-me.ensures c.index.ensures.value c.recover.ensures in search rules
+returns g c =
+    let room = has_room (state c.args.self.now (g.C.Cabinet.cells c.args.cab.now).list c.args.books.now c.args.pool.now) in
+    let e = at_go _ _ recover c.in_ok-me.ensures ∙ row_acts _ _ _ _ _ _ _ _ recover _ _ refl c.in_ok-me.ensures.number c.index.ensures.value _ _ (c.recover.ensures room) in
+    search rules
 
 pub returns-in_err-recover : goal.returns-in_err-recover
-returns-in_err-recover g c = let e = row_step _ _ _ _ _ _ _ recover _ _ _ c.in_ok-me.ensures c.index.ensures.value c.recover.ensures in search rules
+returns-in_err-recover g c =
+    let room = has_room (state c.args.self.now (g.C.Cabinet.cells c.args.cab.now).list c.args.books.now c.args.pool.now) in
+    let e = at_go _ _ recover c.in_ok-me.ensures ∙ row_acts _ _ _ _ _ _ _ _ recover _ _ refl c.in_ok-me.ensures.number c.index.ensures.value _ _ (c.recover.ensures room) in
+    search rules
