@@ -1,4 +1,4 @@
--- What the status of an acting controller says of its replica, and the views of one that is up. Assumes nothing.
+-- What the status of an acting controller says of its replica, and the views of one that is up.
 use Rattle.std.proofs.Common.{◌≡◌, ℕ, true, false, ◌≢◌, List, sym, ap, ◌∙◌, arith}
 use Rattle.std.proofs.lemmas.Bool.{false≢true}
 use Rattle.numbers.specs.declared.rows.Row.{Row}

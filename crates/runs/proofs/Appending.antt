@@ -1,16 +1,19 @@
--- A controller and its replica still belong together with one entry more in both books. Assumes nothing.
-use Rattle.std.proofs.Common.{◌≡◌, ℕ, ◌+◌, ◌<◌, true, ◌⊎◌, List, length, set, Some, sym, ap, ◌∙◌, subst, inl, inr, arith, length-set}
+-- A controller and its replica still belong together with one entry more in both books.
+use Rattle.std.proofs.lemmas.List.{get_or-set_same}
+use Rattle.std.proofs.Common.{◌≡◌, ℕ, ◌+◌, ◌<◌, true, ◌⊎◌, List, length, set, Some, sym, ap, ◌∙◌, subst, inl, inr, arith, length-set, None}
 use Rattle.std.proofs.lemmas.Bool.{cases_eq}
 use Rattle.numbers.specs.declared.rows.Row.{Row}
 use Rattle.numbers.specs.declared.views.ControllerNumber.{ControllerNumber}
 use Rattle.entries.specs.declared.book.Entry.{Entry}
 use Rattle.controller.specs.declared.records.Controller.{Controller}
-use Rattle.controller.specs.Books.{appended, item}
+use Rattle.controller.specs.declared.records.Status.{Status}
+use Rattle.controller.specs.declared.records.Status.TheVariants.{Down, Waiting, Manager, Backup, Primary}
+use Rattle.controller.specs.Books.{appended, item, own_length}
 use Rattle.controller.specs.Records.{is_up}
 use Rattle.protocol.specs.Updates.{upd, upd_all}
 use Rattle.protocol.specs.Model as model
 use Rattle.protocol.specs.Model.{Replica, appending}
-use Rattle.runs.proofs.Bond.{ReplicaR, Small, StatusR, the_entry}
+use Rattle.runs.proofs.Bond.{OwnR, ReplicaR, Small, StatusR, the_entry}
 use Rattle.runs.proofs.Items.{item_set_other, item_set_same}
 
 module _ {E : Type 0} (b : List (Entry E)) (e : Entry E) (l : ℕ) (inside : l < length b) where
@@ -39,11 +42,19 @@ module _ {E : Type 0} (b : List (Entry E)) (e : Entry E) (l : ℕ) (inside : l <
   small_after new old j x lt at =
       elim (put_cases j x at) [ inl here ↦ subst (λ (z : Entry E). Small z.view) here.1 new | inr there ↦ old j x (omega (arith, there.0)) there.1 ]
 
+-- a primary's own length is then one more too
+pub own_after : {E : Type 0} (n : ℕ) (i : ControllerNumber) (l : ℕ) (r : Replica E) → i.number < 7 → (t : Status) → StatusR n i.number t r → OwnR i.number l (own_length i l t)
+own_after n i l r low Down k = tt
+own_after n i l r low Waiting k = tt
+own_after n i l r low (Manager a) k = tt
+own_after n i l r low Backup k = tt
+own_after n i l r low (Primary lengths) k = let long = k.1 in get_or-set_same lengths i.number (Some l) None (omega arith)
+
 -- the entry e, which is z for the replica
 module _ {E : Type 0} {n : ℕ} {x : Controller} {w : Row} {b : List (Entry E)} {r : Replica E} (i : ControllerNumber) (old : ReplicaR n i.number x w b r) (is : is_up x ≡ true) where
-  pub appends : (e : Entry E) (z : model.Entry E) (k : ℕ → ℕ) → z ≡ the_entry e → Small e.view → x.length < length b → StatusR n i.number (appended i x).status (appending r z k)
+  pub appends : (e : Entry E) (z : model.Entry E) (k : ℕ → ℕ) → z ≡ the_entry e → Small e.view → x.length < length b → StatusR n i.number (appended i x).status (appending r z k) → OwnR i.number (x.length + 1) (appended i x).status
       → ReplicaR n i.number (appended i x) w (set b x.length e) (appending r z k)
-  appends e z k new small room status =
+  appends e z k new small room status mine =
       record {
         status = status;
         views = λ _. old.views is;
@@ -56,4 +67,5 @@ module _ {E : Type 0} {n : ℕ} {x : Controller} {w : Row} {b : List (Entry E)} 
           same = same_after b e x.length room r.book r.length z (sym old.log.len) new old.log.same;
           small = small_after b e x.length room small old.log.small;
         };
+        own = mine;
       }

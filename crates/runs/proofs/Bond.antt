@@ -1,5 +1,5 @@
--- How a state of the site belongs to a state of the protocol, and its history to the protocol's. Assumes nothing.
-use Rattle.std.proofs.Common.{◌≡◌, ℕ, suc, ◌-◌, ◌*◌, ◌<◌, ◌≤◌, true, List, [], ◌∷◌, length, get_or, Some, None, Option}
+-- How a state of the site belongs to a state of the protocol, and its history to the protocol's.
+use Rattle.std.proofs.Common.{◌≡◌, ℕ, suc, ◌-◌, ◌*◌, ◌<◌, ◌≤◌, Bool, true, List, [], ◌∷◌, length, get_or, Some, None, Option}
 use Rattle.numbers.specs.declared.rows.Row.{Row}
 use Rattle.numbers.specs.declared.views.View.{View}
 use Rattle.numbers.specs.Rows.{row_ok}
@@ -18,7 +18,7 @@ use Rattle.controller.specs.declared.records.Controller.{Controller}
 use Rattle.controller.specs.declared.records.Status.{Status}
 use Rattle.controller.specs.declared.records.Status.TheVariants.{Down, Waiting, Manager, Backup, Primary}
 use Rattle.controller.specs.Books.{item}
-use Rattle.controller.specs.Records.{is_up}
+use Rattle.controller.specs.Records.{down_record, is_up}
 use Rattle.site.specs.States.{State, book, row}
 use Rattle.protocol.specs.Members.{Member}
 use Rattle.protocol.specs.Views.{view_number}
@@ -55,6 +55,26 @@ pub record CellR (w : Row) (v u : ℕ) : Type 0 where
   pub kept : row_ok w ≡ true
   pub current : v ≡ code w.current
   pub promised : u ≡ code w.promised
+
+-- a primary's own acknowledged length is its length l
+abbrev pub OwnR : ℕ → ℕ → Status → Type 0
+OwnR c l (Primary lengths) = get_or lengths c None ≡ Some l
+OwnR c l st = Unit {0}
+
+-- the sizes of a site that is made
+pub record SizesR (n : ℕ) (is_made : Bool) (k cap : ℕ) : Type 0 where
+  pub made : is_made ≡ true
+  pub size : k ≡ n
+  pub least : 3 ≤ n
+  pub most : n ≤ 7
+  pub cap_most : cap ≤ 65535
+
+-- the lengths of its memory, where p messages fit the pool
+pub record MemoryR (n cap p books pool rows cells : ℕ) : Type 0 where
+  pub books_long : books ≡ n * cap
+  pub pool_long : pool ≡ p
+  pub rows_long : rows ≡ 7
+  pub cells_long : cells ≡ 7
 
 module _ {E : Type 0} where
   abbrev pub the_entry : Entry E → model.Entry E
@@ -106,57 +126,36 @@ module _ {E : Type 0} where
     pub complete : r.complete ≡ x.complete
     pub primary : r.primary ≡ x.primary.number
     pub log : LogR x.length b r.length r.book
+    pub own : OwnR c x.length x.status
+
+  -- the messages in use are known to the protocol, which keeps every one
+  pub record MessagesR (count p : ℕ) (pool : List (Message E)) (sent : List (model.Message E)) : Type 0 where
+    pub holds : count ≤ p
+    pub known : (j : ℕ) (x : Message E) → j < count → item pool j ≡ Some x → Member (the_message x) sent
 
   -- Histories
 
   module _ (says : E → Question → Option Light) (unsettled : Light) where
     abbrev pub EventR : Event E → model.Event E → Type 0
     EventR (handed t x) (model.handed w k y) = (w ≡ code t.view) × Small t.view × (t.place.number ≡ suc k) × (x ≡ y)
-    EventR (handed t x) (model.opening w l f) = ⊥
-    EventR (handed t x) (model.looked_up w l f) = ⊥
-    EventR (handed t x) (model.confirmed w k f) = ⊥
-    EventR (handed t x) (model.lost w z k) = ⊥
-    EventR (opened v b) (model.handed w k y) = ⊥
     EventR (opened v b) (model.opening w l f) = (w ≡ code v) × Small v × BookR b l f
-    EventR (opened v b) (model.looked_up w l f) = ⊥
-    EventR (opened v b) (model.confirmed w k f) = ⊥
-    EventR (opened v b) (model.lost w z k) = ⊥
-    EventR (confirmed t v b) (model.handed w k y) = ⊥
-    EventR (confirmed t v b) (model.opening w l f) = ⊥
-    EventR (confirmed t v b) (model.looked_up w l f) = ⊥
     EventR (confirmed t v b) (model.confirmed w k f) =
         (w ≡ code v) × Small v × Small t.view × (t.place.number ≡ k) × (1 ≤ k) × BookR b (k - 1) f × ((f (k - 1)).view ≡ code t.view)
-    EventR (confirmed t v b) (model.lost w z k) = ⊥
-    EventR (lost t) (model.handed w k y) = ⊥
-    EventR (lost t) (model.opening w l f) = ⊥
-    EventR (lost t) (model.looked_up w l f) = ⊥
-    EventR (lost t) (model.confirmed w k f) = ⊥
     EventR (lost t) (model.lost w z k) = (z ≡ code t.view) × Small t.view × (t.place.number ≡ suc k)
-    EventR (looked_up v b q a) (model.handed w k y) = ⊥
-    EventR (looked_up v b q a) (model.opening w l f) = ⊥
     EventR (looked_up v b q a) (model.looked_up w l f) = (w ≡ code v) × Small v × BookR b l f × (a ≡ looked says unsettled b q)
-    EventR (looked_up v b q a) (model.confirmed w k f) = ⊥
-    EventR (looked_up v b q a) (model.lost w z k) = ⊥
+    EventR e f = ⊥
 
     abbrev pub HistoryR : List (Event E) → List (model.Event E) → Type 0
     HistoryR [] [] = Unit {0}
-    HistoryR [] (y ∷ ys) = ⊥
-    HistoryR (x ∷ xs) [] = ⊥
     HistoryR (x ∷ xs) (y ∷ ys) = EventR x y × HistoryR xs ys
+    HistoryR xs ys = ⊥
 
     -- The whole
 
     pub record Bond (n : ℕ) (s : State E) (h : List (Event E)) (m : Site E) : Type 0 where
-      pub made : s.site.made ≡ true
-      pub size : s.site.n ≡ n
-      pub least : 3 ≤ n
-      pub most : n ≤ 7
-      pub cap_most : s.site.cap ≤ 65535
-      pub books_long : length s.books ≡ n * s.site.cap
-      pub pool_long : length s.pool ≡ s.site.pool
-      pub pool_holds : s.site.count ≤ s.site.pool
-      pub rows_long : length s.site.rows ≡ 7
-      pub cells_long : length s.cells ≡ 7
+      pub sizes : SizesR n s.site.made s.site.n s.site.cap
+      pub memory : MemoryR n s.site.cap s.site.pool (length s.books) (length s.pool) (length s.site.rows) (length s.cells)
       pub replicas : (c : ℕ) → c < n → ReplicaR n c (row s (controller_of c)) (cell_at s.cells c).row (book s (controller_of c)) (m.replicas c)
-      pub messages : (j : ℕ) (x : Message E) → j < s.site.count → item s.pool j ≡ Some x → Member (the_message x) m.pool
+      pub rest : (c : ℕ) → n ≤ c → row s (controller_of c) ≡ down_record
+      pub messages : MessagesR s.site.count s.site.pool s.pool m.pool
       pub histories : HistoryR h m.history

@@ -1,4 +1,4 @@
--- A choice by the rules of the site is one that the protocol allows. Assumes nothing.
+-- A choice by the rules of the site is one that the protocol allows.
 use Rattle.std.proofs.Common.{◌≡◌, ℕ, ◌<◌, ◌≤◌, Bool, true, List, length, get_or, take, Some, None, Option, sym, refl, ap, ◌∙◌, subst, inl, inr, arith, length-take}
 use Rattle.std.proofs.lemmas.List.{get_or-take}
 use Rattle.numbers.specs.declared.views.View.{View}

@@ -1,4 +1,4 @@
--- Views against their codes: for controllers below 8 their order and equality are the same. Assumes nothing.
+-- Views against their codes: for controllers below 8 their order and equality are the same.
 use Rattle.std.proofs.Common.{◌≡◌, ℕ, ◌/◌, ◌%◌, ◌<◌, ◌≤◌, true, false, ◌&&◌, ◌||◌, eqb, ltb, ap, ◌∙◌, arith}
 use Rattle.std.proofs.lemmas.Bool.{both_ways, eq-eqb}
 use Rattle.std.proofs.lemmas.Bool.Decides.{nat_tests}

@@ -1,4 +1,4 @@
--- The delivery of an answer is one of the protocol. Assumes nothing.
+-- The delivery of an answer is one of the protocol.
 use Rattle.std.proofs.Common.{◌≡◌, ℕ, ◌<◌, ◌≤◌, true, leb, List, length, set, Some, Option, sym, refl, ap, ◌∙◌, subst, arith, length-set}
 use Rattle.std.proofs.lemmas.Bool.{and_parts}
 use Rattle.numbers.specs.declared.views.ControllerNumber.{ControllerNumber}
@@ -17,8 +17,8 @@ use Rattle.controller.specs.declared.records.Status.TheVariants.{Manager}
 use Rattle.controller.specs.Books.{cap_of}
 use Rattle.controller.specs.Deliveries.{takes_answer, takes_by}
 use Rattle.controller.specs.Messages.{reply_ok, view_below}
-use Rattle.controller.specs.Questions.{message}
-use Rattle.controller.specs.Shares.{Gave, gave, taken as done_by}
+use Rattle.controller.specs.Messages.{message}
+use Rattle.controller.specs.Actions.{Effect, effect_of, taken}
 use Rattle.controller.specs.Records.{up, with_status}
 use Rattle.site.specs.States.{State, book, has_room, row}
 use Rattle.site.specs.Steps.{share}
@@ -30,7 +30,7 @@ use Rattle.runs.specs.History.{Event}
 use Rattle.runs.proofs.Acting.{promised_code}
 use Rattle.runs.proofs.Bond.{Bond, ReplicaR, SmallAnswer, StatusR, code, the_answer, the_message}
 use Rattle.runs.proofs.Codes.{same_code}
-use Rattle.runs.proofs.Frame.{book_long, frame_all}
+use Rattle.runs.proofs.Puts.{frame_action}
 use Rattle.runs.proofs.Promises.{restated}
 use Rattle.runs.proofs.Ranges.{below_small, in_range}
 use Rattle.runs.proofs.Shown.{Shown, Takes, of_body, shown_split}
@@ -47,7 +47,7 @@ module _ {E : Type 0} (says : E → Question → Option Light) (unsettled : Ligh
     abbrev x : Message E
     x = message a c v (Answers y)
 
-    abbrev Goal : Gave (Message E) E → Type 0
+    abbrev Goal : Effect E → Type 0
     Goal = Shown says unsettled n blank s h j x
 
     abbrev after : List (Option Reply) → Controller
@@ -56,9 +56,9 @@ module _ {E : Type 0} (says : E → Question → Option Light) (unsettled : Ligh
     -- the answer is counted
     counted : Member (the_message x) m.pool → a.number < n → c.number < n → SmallAnswer (Some y)
         → (answers : List (Option Reply)) → (row s c).status ≡ Manager answers → same_view v (row s c).views.promised ≡ true
-        → Goal (done_by c (has_room s) (share s c) (takes_answer c (share s c) x answers y))
+        → Goal (taken c (has_room s) (share s c) (takes_answer x c (share s c) answers y))
     counted member sender below small answers e same =
-        let most = bond.most in
+        let most = bond.sizes.most in
         let r = m.replicas c.number in
         let old : ReplicaR n c.number (row s c) (cell_at s.cells c.number).row (book s c) r = bond.replicas c.number below in
         let was : StatusR n c.number (Manager answers) r = subst (λ st. StatusR n c.number st r) e old.status in
@@ -70,19 +70,19 @@ module _ {E : Type 0} (says : E → Question → Option Light) (unsettled : Ligh
         record {
           site = model.after_answer m a.number c.number (the_answer (Some y));
           run = then run (deliver_answer a.number c.number (code v) (the_answer (Some y)) member was.0 (promised_code old is ∙ sym (same_code v (row s c).views.promised same)));
-          bond = frame_all says unsettled n s h m bond c below (after answers) (book s c) s.cells (with_answers r next) m.views (book_long says unsettled n s h m bond c below) bond.cells_long (λ d other. refl)
-              (restated old is (Manager (set answers a.number (Some y))) r.status r.acknowledged next status);
+          bond = frame_action says unsettled n s h m bond c below (takes_answer x c (share s c) answers y) (with_answers r next) m.views tt refl
+              (restated old is (Manager (set answers a.number (Some y))) r.status r.acknowledged next status tt);
         }
 
     by : Member (the_message x) m.pool → a.number < n → c.number < n → SmallAnswer (Some y)
-        → (st : Status) → (row s c).status ≡ st → Goal (gave c (has_room s) (share s c) (takes_by c (share s c) x st (Answers y)))
-    by member sender below small (Manager answers) e = shown_split says unsettled n blank s h j x (takes_answer c (share s c) x answers y) (stays run bond) (λ ys room put. counted member sender below small answers e ys.0)
+        → (st : Status) → (row s c).status ≡ st → Goal (effect_of c (has_room s) (share s c) (takes_by x c (share s c) st (Answers y)))
+    by member sender below small (Manager answers) e = shown_split says unsettled n blank s h j x (takes_answer x c (share s c) answers y) (stays run bond) (λ ys room put. counted member sender below small answers e ys.0)
     by member sender below small st e = stays run bond
 
     takes : Takes says unsettled n blank s h j m x
     takes member ok =
-        let range = in_range n (cap_of (book s c)) x bond.most ok in
-        by member range.sender range.addressee (answer_small n (cap_of (book s c)) y bond.most range.body) (row s c).status refl
+        let range = in_range n (cap_of (book s c)) x bond.sizes.most ok in
+        by member range.sender range.addressee (answer_small n (cap_of (book s c)) y bond.sizes.most range.body) (row s c).status refl
 
   pub sim_answer : (s : State E) (h : List (Event E)) (m : Site E) → Run n blank m → Bond says unsettled n s h m
       → (j : ℕ) (msg : Message E) (y : Reply) → msg.body ≡ Answers y → Takes says unsettled n blank s h j m msg

@@ -1,7 +1,7 @@
--- A delivery of the site is one of the protocol, by the kind of message. Assumes nothing.
+-- A delivery of the site is one of the protocol, by the kind of message.
 use Rattle.std.proofs.Common.{◌≡◌, ℕ, ◌<◌, true, ltb, List, [], ◌∷◌, ◌++◌, Some, None, Option, refl, subst}
 use Rattle.std.proofs.lemmas.Bool.{ltb-true}
-use Rattle.numbers.specs.declared.refusals.Refusal.TheVariants.{BadMessage, NoSuchMessage, NotMade}
+use Rattle.numbers.specs.declared.refusals.Refusal.TheVariants.{BadMessage}
 use Rattle.entries.specs.declared.book.Body.{Body}
 use Rattle.entries.specs.declared.book.Body.TheVariants.{Invitation, Answer as Answers, Form, Entry as Carries, Acknowledgement}
 use Rattle.entries.specs.declared.book.Message.{Message}
@@ -9,20 +9,19 @@ use Rattle.entries.specs.declared.kinds.Answer.{Answer as Light}
 use Rattle.entries.specs.declared.kinds.Question.{Question}
 use Rattle.forming.specs.Members.{is_member}
 use Rattle.controller.specs.Books.{cap_of, item}
-use Rattle.controller.specs.Deliveries.{delivers, takes}
+use Rattle.controller.specs.declared.outcomes.Outcome.{Outcome}
+use Rattle.controller.specs.Deliveries.{deliver, takes}
 use Rattle.controller.specs.Messages.{message_ok}
-use Rattle.controller.specs.Questions.{ask, q}
-use Rattle.controller.specs.Shares.{gave, refused}
-use Rattle.controller.proofs.Deeds.{asks_split}
-use Rattle.site.specs.Faults.{named_by}
-use Rattle.site.specs.States.{Done, State, book, has_room, is_made}
-use Rattle.site.specs.Steps.{at_site, deliver_message, refuse_about, share}
+use Rattle.controller.specs.Questions.{Question as Asks, ask}
+use Rattle.controller.specs.Actions.{effect_of, refused}
+use Rattle.controller.proofs.Actions.{asks_split}
+use Rattle.site.specs.States.{Done, State, book, has_room}
+use Rattle.site.specs.Steps.{acts, deliver_message, pool_asks, refuse_about, share, told_of}
 use Rattle.protocol.specs.Model as model
 use Rattle.protocol.specs.Model.{Run, Site}
-use Rattle.runs.specs.declared.steps.Outcome.TheVariants.{Delivered as Given}
 use Rattle.runs.specs.declared.steps.Step.TheVariants.{Deliver}
 use Rattle.runs.specs.History.{Event, deliver_tells, told}
-use Rattle.runs.specs.Runs.{outcome_of, step}
+use Rattle.runs.specs.Runs.{step}
 use Rattle.runs.proofs.Bond.{Bond}
 use Rattle.runs.proofs.DeliveredAcknowledgements.{sim_acknowledgement}
 use Rattle.runs.proofs.DeliveredAnswers.{sim_answer}
@@ -44,20 +43,18 @@ module _ {E : Type 0} (says : E → Question → Option Light) (unsettled : Ligh
   pub sim_deliver : (s : State E) (h : List (Event E)) (m : Site E) → Run n blank m → Bond says unsettled n s h m → (j : ℕ)
       → Simulated says unsettled n blank (step says unsettled s (Deliver j)).state (told says unsettled h s (Deliver j))
   sim_deliver s h m run bond j =
-      asks_split P (q NotMade (is_made s) ∷ q NoSuchMessage (ltb j s.site.count) ∷ []) (refuse_about s j) (deliver_message s j (item s.pool j)) (λ k. stays run bond)
+      asks_split P (pool_asks s j) (refuse_about s j) (deliver_message s j (item s.pool j)) (λ k. stays run bond)
       (λ ys. found (item s.pool j) refl (ltb-true j s.site.count ys.1.0))
     where
-      P : Done (Message E) E → Type 0
-      P d = Simulated says unsettled n blank d.state (deliver_tells d.state (outcome_of Given d.result) ++ h)
-
-      ranged : (x : Message E) → item s.pool j ≡ Some x → j < s.site.count → message_ok s.site.n (cap_of (book s x.addressee)) x ≡ true
-          → Shown says unsettled n blank s h j x (gave x.addressee (has_room s) (share s x.addressee) (takes x.addressee (share s x.addressee) x))
-      ranged x e lt ok =
-          by_kind s h m run bond j x x.body refl (bond.messages j x lt e) (subst (λ k. message_ok k (cap_of (book s x.addressee)) x ≡ true) bond.size ok)
+      P : Done (Outcome E) E → Type 0
+      P d = Simulated says unsettled n blank d.state (deliver_tells d.state d.result ++ h)
 
       found : (o : Option (Message E)) → item s.pool j ≡ o → j < s.site.count → P (deliver_message s j o)
       found None e lt = stays run bond
       found (Some x) e lt =
-          asks_split P (q BadMessage (is_member s.site.n x.addressee) ∷ []) (refuse_about s j) (at_site s x.addressee (named_by j) (λ i h. delivers i h x s.site.n)) (λ k. stays run bond)
-          (λ zs. asks_split (Shown says unsettled n blank s h j x) (ask (message_ok s.site.n (cap_of (book s x.addressee)) x) BadMessage ∷ []) (refused x.addressee (has_room s) (share s x.addressee))
-          (gave x.addressee (has_room s) (share s x.addressee) (takes x.addressee (share s x.addressee) x)) (λ k. stays run bond) (λ ws. ranged x e lt ws.0))
+          let k = x.addressee in
+          let ranged : List Asks = ask (message_ok s.site.n (cap_of (book s k)) x) BadMessage ∷ [] in
+          asks_split P (ask (is_member s.site.n k) BadMessage ∷ []) (refuse_about s j) (told_of j (acts s k (deliver s.site.n x))) (λ z. stays run bond)
+          (λ zs. asks_split (Shown says unsettled n blank s h j x) ranged (refused k (has_room s) (share s k))
+          (effect_of k (has_room s) (share s k) (takes x k (share s k))) (λ z. stays run bond)
+          (λ ws. by_kind s h m run bond j x x.body refl (bond.messages.known j x lt e) (subst (λ z. message_ok z (cap_of (book s k)) x ≡ true) bond.sizes.size ws.0)))

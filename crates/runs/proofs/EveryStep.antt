@@ -1,4 +1,4 @@
--- Every list of steps is a run of the protocol. Assumes nothing.
+-- Every list of steps is a run of the protocol.
 use Rattle.std.proofs.Common.{ℕ, List, [], ◌∷◌, Option}
 use Rattle.entries.specs.declared.kinds.Answer.{Answer as Light}
 use Rattle.entries.specs.declared.kinds.Question.{Question}

@@ -1,4 +1,4 @@
--- What a step that touches one controller has to show, so that site and protocol still belong together. Assumes nothing.
+-- What a step that touches one controller has to show, so that site and protocol still belong together.
 use Rattle.std.proofs.Common.{◌≡◌, ℕ, ◌+◌, ◌*◌, ◌<◌, ◌≤◌, ◌≢◌, ◌⊎◌, List, [], ◌∷◌, ◌++◌, length, get_or, set, Some, Option, sym, refl, ap, ◌∙◌, subst, inl, inr, arith, length-set}
 use Rattle.std.proofs.lemmas.List.{get_or-set_other, get_or-set_same}
 use Rattle.std.proofs.lemmas.Bool.{cases_eq}
@@ -14,9 +14,10 @@ use Rattle.cabinet.specs.Cells.{cell_at}
 use Rattle.cabinet.proofs.Blocks.{over_length, block_here}
 use Rattle.cabinet.proofs.Cuts.{parts_apart}
 use Rattle.controller.specs.declared.records.Controller.{Controller}
+use Rattle.controller.specs.Actions.{own}
 use Rattle.controller.specs.Books.{item}
 use Rattle.controller.specs.Records.{down_record}
-use Rattle.site.specs.States.{State, book, part, put_all, put_cell, put_row, sent, with_count, with_part, with_row}
+use Rattle.site.specs.States.{State, book, part, put_share, sent, with_count, with_part, with_row}
 use Rattle.protocol.specs.Members.{Member}
 use Rattle.protocol.specs.Updates.{upd, upd_all}
 use Rattle.protocol.specs.Model as model
@@ -36,7 +37,7 @@ replica_as n c x y v w a b r same_x same_v same_a h =
 module _ {E : Type 0} (says : E → Question → Option Light) (unsettled : Light) (n : ℕ) (s : State E) (h : List (Event E)) (m : Site E) (bond : Bond says unsettled n s h m) where
   -- i's part is within the books
   fits : (i : ControllerNumber) → i.number < n → i.number * s.site.cap + s.site.cap ≤ length s.books
-  fits i below = omega (arith, parts_apart i.number n s.site.cap below, bond.books_long)
+  fits i below = omega (arith, parts_apart i.number n s.site.cap below, bond.memory.books_long)
 
   -- the record of i, the cells and the books changed, and no cell or part of another controller
   framed : (i : ControllerNumber) → i.number < n → (x : Controller) (cells : List Cell) (books : List (Entry E)) (r : Replica E) (views : ℕ → model.View E)
@@ -49,7 +50,7 @@ module _ {E : Type 0} (says : E → Question → Option Light) (unsettled : Ligh
       let k : ℕ = i.number in
       let cap : ℕ = s.site.cap in
       let rows : List Controller = s.site.rows in
-      let inside : k < length rows = omega (arith, bond.rows_long, bond.most) in
+      let inside : k < length rows = omega (arith, bond.memory.rows_long, bond.sizes.most) in
       let mine : k < n → ReplicaR n k (get_or (set rows k x) k down_record) (cell_at cells k).row (part books cap k) r =
       λ lt. subst (λ z. ReplicaR n k z (cell_at cells k).row (part books cap k) r) (sym (get_or-set_same rows k x down_record inside)) here in
       let others : (c : ℕ) → c ≢ k → c < n → ReplicaR n c (get_or (set rows k x) c down_record) (cell_at cells c).row (part books cap c) (m.replicas c) =
@@ -57,44 +58,25 @@ module _ {E : Type 0} (says : E → Question → Option Light) (unsettled : Ligh
       (part s.books cap c) (part books cap c) (m.replicas c)
       (get_or-set_other rows k c x down_record other) (ap (λ z. z.row) (cells_same c other)) (books_same c other) (bond.replicas c lt) in
       record {
-        made = bond.made;
-        size = bond.size;
-        least = bond.least;
-        most = bond.most;
-        cap_most = bond.cap_most;
-        books_long = books_long ∙ bond.books_long;
-        pool_long = bond.pool_long;
-        pool_holds = bond.pool_holds;
-        rows_long = length-set rows k x ∙ bond.rows_long;
-        cells_long = cells_long;
+        sizes = bond.sizes;
+        memory = record { books_long = books_long ∙ bond.memory.books_long; pool_long = bond.memory.pool_long; rows_long = length-set rows k x ∙ bond.memory.rows_long; cells_long = cells_long };
         replicas = upd_all (λ c y. c < n → ReplicaR n c (get_or (set rows k x) c down_record) (cell_at cells c).row (part books cap c) y) m.replicas k r mine others;
+        rest = λ c above. get_or-set_other rows k c x down_record (λ e. omega (arith, e)) ∙ bond.rest c above;
         messages = bond.messages;
         histories = bond.histories;
       }
 
-  -- controller i's record changed; `views` is the protocol's own record of views, which the bond does not speak of
-  pub frame_row : (i : ControllerNumber) → i.number < n → (x : Controller) (r : Replica E) (views : ℕ → model.View E)
-      → ReplicaR n i.number x (cell_at s.cells i.number).row (book s i) r
-      → Bond says unsettled n (put_row s i x) h (record { replicas = upd m.replicas i.number r; views = views; pool = m.pool; history = m.history })
-  frame_row i below x r views here = framed i below x s.cells s.books r views bond.cells_long (λ c other. refl) refl (λ c other. refl) here
-
-  -- its record and its cell
-  pub frame_cell : (i : ControllerNumber) → i.number < n → (x : Controller) (cells : List Cell) (r : Replica E) (views : ℕ → model.View E)
-      → length cells ≡ 7 → ((c : ℕ) → c ≢ i.number → cell_at cells c ≡ cell_at s.cells c)
-      → ReplicaR n i.number x (cell_at cells i.number).row (book s i) r
-      → Bond says unsettled n (put_cell s i x cells) h (record { replicas = upd m.replicas i.number r; views = views; pool = m.pool; history = m.history })
-  frame_cell i below x cells r views long others here = framed i below x cells s.books r views long others refl (λ c other. refl) here
-
-  -- its record, its cell and its part of the books
-  pub frame_all : (i : ControllerNumber) → i.number < n → (x : Controller) (b : List (Entry E)) (cells : List Cell) (r : Replica E) (views : ℕ → model.View E)
-      → length b ≡ s.site.cap
+  -- what controller i has changed: its record, its part of the books, and the cells, of which no other; `views` is the protocol's own record of views, which the bond does not speak of
+  pub frame_own : (i : ControllerNumber) → i.number < n → (x : Controller) (b : List (Entry E)) (cells : List Cell) (r : Replica E) (views : ℕ → model.View E)
+      → length b ≡ length (book s i)
       → length cells ≡ 7 → ((c : ℕ) → c ≢ i.number → cell_at cells c ≡ cell_at s.cells c)
       → ReplicaR n i.number x (cell_at cells i.number).row b r
-      → Bond says unsettled n (put_all s i x b cells) h (record { replicas = upd m.replicas i.number r; views = views; pool = m.pool; history = m.history })
-  frame_all i below x b cells r views long_b long others here =
+      → Bond says unsettled n (put_share s i (own x b cells)) h (record { replicas = upd m.replicas i.number r; views = views; pool = m.pool; history = m.history })
+  frame_own i below x b cells r views long long_cells others here =
       let cap : ℕ = s.site.cap in
       let within = fits i below in
-      framed i below x cells (with_part s.books cap i.number b) r views long others
+      let long_b : length b ≡ cap = long ∙ part_long s.books cap i.number within in
+      framed i below x cells (with_part s.books cap i.number b) r views long_cells others
       (over_length s.books (i.number * cap) cap b within long_b) (with_part_other s.books cap i.number b within long_b)
       (subst (λ z. ReplicaR n i.number x (cell_at cells i.number).row z r) (sym (block_here s.books (i.number * cap) cap b within long_b)) here)
 
@@ -104,18 +86,11 @@ module _ {E : Type 0} (says : E → Question → Option Light) (unsettled : Ligh
       → Bond says unsettled n (record { site = with_count s.site k; cells = s.cells; books = s.books; pool = pool }) h (record { replicas = m.replicas; views = m.views; pool = sent_all; history = m.history })
   frame_pool k pool sent_all long holds messages =
       record {
-        made = bond.made;
-        size = bond.size;
-        least = bond.least;
-        most = bond.most;
-        cap_most = bond.cap_most;
-        books_long = bond.books_long;
-        pool_long = long ∙ bond.pool_long;
-        pool_holds = omega (arith, bond.pool_long);
-        rows_long = bond.rows_long;
-        cells_long = bond.cells_long;
+        sizes = bond.sizes;
+        memory = record { books_long = bond.memory.books_long; pool_long = long ∙ bond.memory.pool_long; rows_long = bond.memory.rows_long; cells_long = bond.memory.cells_long };
         replicas = bond.replicas;
-        messages = messages;
+        rest = bond.rest;
+        messages = record { holds = omega (arith, bond.memory.pool_long); known = messages };
         histories = bond.histories;
       }
 
@@ -131,27 +106,8 @@ module _ {E : Type 0} (says : E → Question → Option Light) (unsettled : Ligh
           let new : Some x ≡ Some y = sym (item_set_same s.pool s.site.count x room) ∙ subst (λ k. item (set s.pool s.site.count x) k ≡ Some y) e read in
           subst (λ z. Member (the_message z) (m.pool ++ (the_message x ∷ []))) (same_Some x y new) (member_last (the_message x) m.pool)
       at j y lt read (inr other) =
-          member_front (the_message y) m.pool (the_message x ∷ []) (bond.messages j y (omega arith) (sym (item_set_other s.pool s.site.count j x other) ∙ read))
+          member_front (the_message y) m.pool (the_message x ∷ []) (bond.messages.known j y (omega arith) (sym (item_set_other s.pool s.site.count j x other) ∙ read))
 
   -- an event more in both histories
   pub frame_note : (e : Event E) (f : model.Event E) → EventR says unsettled e f → Bond says unsettled n s (e ∷ h) (note m f)
-  frame_note e f same =
-      record {
-        made = bond.made;
-        size = bond.size;
-        least = bond.least;
-        most = bond.most;
-        cap_most = bond.cap_most;
-        books_long = bond.books_long;
-        pool_long = bond.pool_long;
-        pool_holds = bond.pool_holds;
-        rows_long = bond.rows_long;
-        cells_long = bond.cells_long;
-        replicas = bond.replicas;
-        messages = bond.messages;
-        histories = (same, bond.histories);
-      }
-
-  -- a controller's part of the books has cap entries
-  pub book_long : (i : ControllerNumber) → i.number < n → length (book s i) ≡ s.site.cap
-  book_long i below = part_long s.books s.site.cap i.number (fits i below)
+  frame_note e f same = record { sizes = bond.sizes; memory = bond.memory; replicas = bond.replicas; rest = bond.rest; messages = bond.messages; histories = (same, bond.histories) }

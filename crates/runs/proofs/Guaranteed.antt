@@ -1,4 +1,4 @@
--- The guarantee: the four laws hold of every list of steps from a made site. Assumes nothing.
+-- The guarantee: the four laws hold of every list of steps from a made site.
 use Rattle.std.proofs.Common.{◌≡◌, ℕ, ◌<◌, List, [], ◌∷◌, ◌++◌, length, Ok, Option, ap, ◌∙◌, arith}
 use Rattle.numbers.specs.Views.{view_of}
 use Rattle.entries.specs.declared.kinds.Answer.{Answer as Light}

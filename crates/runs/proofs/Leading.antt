@@ -1,4 +1,4 @@
--- A list of turns that is played from its beginning: what is left leads from here to where all leads from the start. Assumes nothing.
+-- A list of turns that is played from its beginning: what is left leads from here to where all leads from the start.
 use Rattle.std.proofs.Common.{◌≡◌, ℕ, suc, ◌+◌, ◌<◌, ◌≤◌, List, [], ◌∷◌, ◌++◌, length, get_or, take, drop, set, Some, Option, Result, sym, refl, ap, ◌∙◌, add-one, arith, drop-cons, take-suc-set, drop-set-lt}
 use lib.Seq.{append_snoc}
 use Rattle.std.proofs.lemmas.List.{append-nil, drop_all, take_all}
@@ -6,7 +6,7 @@ use Rattle.entries.specs.declared.kinds.Answer.{Answer}
 use Rattle.entries.specs.declared.kinds.Question.{Question}
 use Rattle.site.specs.declared.faults.Fault.{Fault}
 use Rattle.site.specs.States.{State, done}
-use Rattle.runs.specs.declared.steps.Outcome.{Outcome}
+use Rattle.controller.specs.declared.outcomes.Outcome.{Outcome}
 use Rattle.runs.specs.declared.steps.Step.{Step}
 use Rattle.runs.specs.declared.steps.Turn.{Turn}
 use Rattle.runs.specs.Runs.{played, ran, step, steps_of}

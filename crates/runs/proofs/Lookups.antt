@@ -1,28 +1,23 @@
--- A question that is answered is a step of the protocol. Assumes nothing.
-use Rattle.std.proofs.Common.{◌≡◌, ℕ, ◌<◌, true, List, [], ◌∷◌, ◌++◌, Ok, Err, Option, refl}
-use Rattle.numbers.specs.declared.refusals.Refusal.TheVariants.{WrongPower, WrongStatus}
+-- A question that is answered is a step of the protocol.
+use Rattle.std.proofs.Common.{◌≡◌, ℕ, ◌<◌, true, List, ◌∷◌, ◌++◌, Option, refl}
 use Rattle.numbers.specs.declared.views.ControllerNumber.{ControllerNumber}
 use Rattle.entries.specs.declared.kinds.Answer.{Answer as Light}
 use Rattle.entries.specs.declared.kinds.Question.{Question}
 use Rattle.entries.specs.Lookups.{looked}
 use Rattle.controller.specs.Books.{in_use}
-use Rattle.controller.specs.Primaries.{looked_up as answered}
-use Rattle.controller.specs.Questions.{q, refusal_at}
+use Rattle.controller.specs.declared.outcomes.Outcome.{Outcome}
+use Rattle.controller.specs.Lookups.{lookup}
 use Rattle.controller.specs.Records.{is_active, is_up}
-use Rattle.controller.proofs.Deeds.{asks_split}
 use Rattle.site.specs.States.{Done, State, book, row}
-use Rattle.site.specs.Steps.{placed, refuse, site_asks}
 use Rattle.protocol.specs.Model as model
 use Rattle.protocol.specs.Model.{Run, Site, note, then}
-use Rattle.runs.specs.declared.steps.Outcome.TheVariants.{Answered}
 use Rattle.runs.specs.declared.steps.Step.TheVariants.{Lookup}
 use Rattle.runs.specs.History.{Event, book_at, looked_up, tells, told, view_at}
-use Rattle.runs.specs.Runs.{step, stepped}
+use Rattle.runs.specs.Runs.{step}
 use Rattle.runs.proofs.Acting.{active_is_active, current_code, views_small}
 use Rattle.runs.proofs.Bond.{Bond}
 use Rattle.runs.proofs.Frame.{frame_note}
-use Rattle.runs.proofs.Ranges.{member_below}
-use Rattle.runs.proofs.Simulated.{Simulated, stays}
+use Rattle.runs.proofs.Simulated.{Simulated, at_split, reads, stays}
 use Rattle.runs.proofs.Used.{used_book}
 
 module _ {E : Type 0} (says : E → Question → Option Light) (unsettled : Light) (n : ℕ) (blank : ℕ → model.Entry E)
@@ -46,12 +41,10 @@ module _ {E : Type 0} (says : E → Question → Option Light) (unsettled : Ligh
         );
       }
 
-  abbrev L : Question → Done Light E → Type 0
-  L question d = Sim d.state (tells s (Lookup i question) (stepped Answered d).result d.state ++ h)
+  abbrev L : Question → Done (Outcome E) E → Type 0
+  L question d = Sim d.state (tells s (Lookup i question) d.result d.state ++ h)
 
   pub sim_lookup : (question : Question) → Sim (step says unsettled s (Lookup i question)).state (told says unsettled h s (Lookup i question))
   sim_lookup question =
-      asks_split (L question) (site_asks s i) (refuse s i) (placed s (answered says unsettled i (row s i) (book s i) question) s) (λ k. stays run bond)
-      (λ ys. asks_split (λ o. L question (placed s o s)) (q WrongPower (is_up (row s i)) ∷ q WrongStatus (is_active (row s i)) ∷ []) (λ k. Err (refusal_at i k))
-      (Ok (looked says unsettled (in_use (row s i) (book s i)) question)) (λ k. stays run bond)
-      (λ zs. answers (member_below s.site.n n i bond.size ys.1.0) zs.0 zs.1.0 question))
+      at_split (L question) s i (lookup says unsettled question) (λ f. stays run bond) n bond.sizes.size
+      (λ below zs room put. reads (L question) s i (lookup says unsettled question) (λ f. stays run bond) refl (answers below zs.0 zs.1.0 question))

@@ -1,4 +1,4 @@
--- The members of a list are members of a longer one. Assumes nothing.
+-- The members of a list are members of a longer one.
 use Rattle.std.proofs.Common.{List, [], ◌∷◌, ◌++◌, refl, inl, inr}
 use Rattle.protocol.specs.Members.{Member}
 

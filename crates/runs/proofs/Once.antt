@@ -1,4 +1,4 @@
--- No stamp is handed out twice and no view is opened twice, since in the protocol none is. Assumes nothing.
+-- No stamp is handed out twice and no view is opened twice, since in the protocol none is.
 use Rattle.std.proofs.Common.{◌≡◌, ℕ, ◌-◌, ◌≤◌, Bool, true, false, cond, ◌&&◌, eqb, List, [], ◌∷◌, ◌++◌, length, Option, length-append, refl, ◌∙◌, arith}
 use Rattle.std.proofs.lemmas.Bool.{and_from, and_parts, eqb-true, eq-eqb}
 use Rattle.numbers.specs.declared.views.Stamp.{Stamp}

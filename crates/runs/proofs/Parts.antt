@@ -1,4 +1,4 @@
--- The books of a site as parts of the same length, one of which is put anew. Assumes nothing.
+-- The books of a site as parts of the same length, one of which is put anew.
 use Rattle.std.proofs.Common.{◌≡◌, ℕ, ◌+◌, ◌*◌, ◌≤◌, ◌≢◌, List, length, inl, inr, arith}
 use Rattle.std.proofs.lemmas.List.{length-drop, length-take}
 use Rattle.std.proofs.lemmas.Bool.{cases_order}

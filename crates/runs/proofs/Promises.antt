@@ -1,4 +1,4 @@
--- A controller that gets another status, or promises a view, still belongs to its replica. Assumes nothing.
+-- A controller that gets another status, or promises a view, still belongs to its replica.
 use Rattle.std.proofs.Common.{◌≡◌, ℕ, true, List, Some, refl}
 use Rattle.numbers.specs.declared.rows.Row.{Row}
 use Rattle.numbers.specs.declared.views.ControllerNumber.{ControllerNumber}
@@ -11,7 +11,7 @@ use Rattle.controller.specs.Records.{is_up, reply_of, with_status}
 use Rattle.protocol.specs.Model as model
 use Rattle.protocol.specs.Model.{Replica, answer_of, promising}
 use Rattle.runs.proofs.Acting.{current_code}
-use Rattle.runs.proofs.Bond.{ReplicaR, StatusR, code, the_answer}
+use Rattle.runs.proofs.Bond.{OwnR, ReplicaR, StatusR, code, the_answer}
 use Rattle.runs.proofs.Tables.{reply_same}
 
 module _ {E : Type 0} where
@@ -24,14 +24,14 @@ module _ {E : Type 0} where
     pub answer_is : (i : ControllerNumber) → answer_of i.number r ≡ the_answer (Some (reply_of i x))
     answer_is i = reply_same i x r old.complete (current_code old is) old.log.len old.primary
 
-    pub restated : (st : Status) (t : model.Status) (k : ℕ → ℕ) (a : ℕ → model.Answer) → StatusR n c st (restating r t k a) → ReplicaR n c (with_status x st) w b (restating r t k a)
-    restated st t k a status = record { status = status; views = λ _. old.views is; cell = old.cell; complete = old.complete; primary = old.primary; log = old.log }
+    pub restated : (st : Status) (t : model.Status) (k : ℕ → ℕ) (a : ℕ → model.Answer) → StatusR n c st (restating r t k a) → OwnR c x.length st → ReplicaR n c (with_status x st) w b (restating r t k a)
+    restated st t k a status mine = record { status = status; views = λ _. old.views is; cell = old.cell; complete = old.complete; primary = old.primary; log = old.log; own = mine }
 
     -- promised to the view v, whose code is u, with another status
     pub promises : (st : Status) (t : model.Status) (v : View) (u : ℕ) (a : ℕ → model.Answer)
         → u ≡ code v → row_ok (record { current = x.views.current; promised = v }) ≡ true
-        → StatusR n c st (promising r t u a)
+        → StatusR n c st (promising r t u a) → OwnR c x.length st
         → ReplicaR n c (record { status = st; views = record { current = x.views.current; promised = v }; complete = x.complete; length = x.length; primary = x.primary })
         (record { current = x.views.current; promised = v }) b (promising r t u a)
-    promises st t v u a e kept status =
-        record { status = status; views = λ _. refl; cell = record { kept = kept; current = current_code old is; promised = e }; complete = old.complete; primary = old.primary; log = old.log }
+    promises st t v u a e kept status mine =
+        record { status = status; views = λ _. refl; cell = record { kept = kept; current = current_code old is; promised = e }; complete = old.complete; primary = old.primary; log = old.log; own = mine }

@@ -1,4 +1,4 @@
--- What keeps its range: its views are small, and its controllers are of the site. Assumes nothing.
+-- What keeps its range: its views are small, and its controllers are of the site.
 use Rattle.std.proofs.Common.{◌≡◌, ℕ, ◌<◌, ◌≤◌, true, not, ◌&&◌, ltb, leb, arith}
 use Rattle.std.proofs.lemmas.Bool.{and_parts, leb-true, ltb-true}
 use Rattle.numbers.specs.declared.rows.Row.{Row}

@@ -1,18 +1,20 @@
--- What is shown of a step: the protocol has a run that the state after it belongs to. Assumes nothing.
-use Rattle.std.proofs.Common.{ℕ, List, Err, Option}
+-- What is shown of a step: the protocol has a run that the state after it belongs to.
+use Rattle.std.proofs.Common.{◌≡◌, ℕ, ◌<◌, List, [], Ok, Err, Option, sym, subst}
 use Rattle.entries.specs.declared.kinds.Answer.{Answer as Light}
 use Rattle.entries.specs.declared.kinds.Question.{Question}
 use Rattle.numbers.specs.declared.views.ControllerNumber.{ControllerNumber}
-use Rattle.controller.specs.Shares.{Deed, Held, put_asks, room_asks, taken}
-use Rattle.controller.proofs.Deeds.{AllYes, asks_split, deed_split}
+use Rattle.controller.specs.declared.outcomes.Outcome.{Outcome}
+use Rattle.controller.specs.Actions.{Action, Own, cells_after, own, put_asks, room_asks, taken}
+use Rattle.controller.proofs.Actions.{AllYes, asks_split, effect_split}
 use Rattle.site.specs.declared.faults.Fault.{Fault}
-use Rattle.site.specs.Faults.{site_fault}
-use Rattle.site.specs.States.{Done, State, done, has_room}
-use Rattle.site.specs.Steps.{at_site, by_controller, placed_at, refuse, share, site_asks}
+use Rattle.site.specs.States.{Done, State, done, has_room, sends}
+use Rattle.site.specs.Steps.{acts, other_asks, placed, refuse, share, site_asks, step_at, step_between}
+use Rattle.site.proofs.Placing.{put_same}
 use Rattle.protocol.specs.Model as model
 use Rattle.protocol.specs.Model.{Run, Site}
 use Rattle.runs.specs.History.{Event}
 use Rattle.runs.proofs.Bond.{Bond}
+use Rattle.runs.proofs.Ranges.{member_below}
 
 module _ {E : Type 0} (says : E → Question → Option Light) (unsettled : Light) (n : ℕ) (blank : ℕ → model.Entry E) where
   pub record Simulated (s : State E) (h : List (Event E)) : Type 0 where
@@ -25,11 +27,27 @@ pub stays : {E : Type 0} {says : E → Question → Option Light} {unsettled : L
     → Run n blank m → Bond says unsettled n s h m → Simulated says unsettled n blank s h
 stays {m = m} run bond = record { site = m; run = run; bond = bond }
 
--- what holds of a state that stays, and of what controller i leaves where all was answered yes, holds of its step at the site
-pub acts_split : {A E : Type 0} (P : Done A E → Type 0) (s : State E) (i : ControllerNumber) (deed : ControllerNumber → Held E → Deed A E) → ((f : Fault) → P (done (Err f) s))
-    → (let d = deed i (share s i) in AllYes (site_asks s i) → AllYes d.asks → AllYes (room_asks (has_room s) d.sent) → AllYes (put_asks d.puts s.cells i d.row.views)
-    → P (placed_at s i site_fault (taken i (has_room s) (share s i) d)))
-    → P (by_controller s i deed)
-acts_split P s i deed none go =
-    asks_split P (site_asks s i) (refuse s i) (at_site s i site_fault deed) (λ k. none _)
-    (λ ys. deed_split i (has_room s) (share s i) (λ g. P (placed_at s i site_fault g)) (deed i (share s i)) (λ k. none _) (go ys))
+-- What holds of a state that stays, and of what controller i leaves where all is answered yes, holds of its step at the site
+
+module _ {E : Type 0} (P : Done (Outcome E) E → Type 0) (s : State E) (i : ControllerNumber) (action : ControllerNumber → Own E → Action E) (none : (f : Fault) → P (done (Err f) s)) where
+  abbrev a : Action E
+  a = action i (share s i)
+
+  -- what is left where nothing of its own changes
+  pub reads : own a.row a.book (cells_after a.puts s.cells i a.row.views) ≡ share s i → P (done (Ok a.gives) (sends s a.sent)) → P (placed s i (taken i (has_room s) (share s i) a))
+  reads same shown = subst (λ z. P (done (Ok a.gives) (sends z a.sent))) (sym (put_same s i (own a.row a.book (cells_after a.puts s.cells i a.row.views)) same)) shown
+
+  pub acts_split : (AllYes a.asks → AllYes (room_asks (has_room s) a.sent) → AllYes (put_asks a.puts s.cells i a.row.views) → P (placed s i (taken i (has_room s) (share s i) a))) → P (acts s i action)
+  acts_split go = effect_split i (has_room s) (share s i) (λ g. P (placed s i g)) a (λ k. none _) go
+
+  pub at_split : (n : ℕ) → s.site.n ≡ n
+      → (i.number < n → AllYes a.asks → AllYes (room_asks (has_room s) a.sent) → AllYes (put_asks a.puts s.cells i a.row.views) → P (placed s i (taken i (has_room s) (share s i) a)))
+      → P (step_at s i action)
+  at_split n size go = asks_split P (site_asks s i []) (refuse s i) (acts s i action) (λ k. none _) (λ ys. acts_split (go (member_below s.site.n n i size ys.1.0)))
+
+  pub between_split : (n : ℕ) → s.site.n ≡ n → (b : ControllerNumber)
+      → (i.number < n → b.number < n → AllYes a.asks → AllYes (room_asks (has_room s) a.sent) → AllYes (put_asks a.puts s.cells i a.row.views) → P (placed s i (taken i (has_room s) (share s i) a)))
+      → P (step_between s i b action)
+  between_split n size b go =
+      asks_split P (site_asks s i (other_asks s i b)) (refuse s i) (acts s i action) (λ k. none _)
+      (λ ys. acts_split (go (member_below s.site.n n i size ys.1.0) (member_below s.site.n n b size ys.1.1.0)))

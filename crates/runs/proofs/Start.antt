@@ -1,8 +1,9 @@
--- A site that was just made belongs to the state that the protocol's runs start from. Assumes nothing.
+-- A site that was just made belongs to the state that the protocol's runs start from.
 use Rattle.std.proofs.Common.{◌≡◌, ℕ, zero, suc, ◌*◌, ◌<◌, ◌≤◌, Bool, true, false, cond, ◌&&◌, eqb, leb, ◌⊎◌, List, [], ◌∷◌, map, length, get_or, replicate, None, Ok, Err, Option, sym, refl, ap, ◌∙◌, subst, inl, inr, not-suc-le-zero, arith}
 use native.Mathlib.Decide.{ℕ_discrete, dec_lt}
+use Rattle.std.proofs.Math.ListN.{get_or-eq_default}
 use Rattle.std.proofs.lemmas.List.FromFn.{get_or-map-range_with_len}
-use Rattle.std.proofs.lemmas.Bool.{and_parts, cases_lt, eqb-true, leb-true, lt-ltb, ne_eqb}
+use Rattle.std.proofs.lemmas.Bool.{and_parts, cases_lt, eqb-true, le-ltb, leb-true, lt-ltb, ne_eqb}
 use Rattle.std.proofs.lemmas.Option.{none-some}
 use Rattle.std.specs.List.{range_with_len}
 use Rattle.numbers.specs.declared.refusals.Refusal.{Refusal}
@@ -16,7 +17,7 @@ use Rattle.entries.specs.declared.kinds.Question.{Question}
 use Rattle.cabinet.specs.declared.cells.Cell.{Cell}
 use Rattle.cabinet.specs.Cells.{cell_at}
 use Rattle.forming.proofs.ByRules.{same_view_equal}
-use Rattle.controller.specs.Questions.{asks, q}
+use Rattle.controller.specs.Questions.{ask, asks}
 use Rattle.controller.specs.Records.{down_record, first_record, first_status, only}
 use Rattle.site.specs.Making.{cells_zero, made_row, made_site, make_step, same_row, sizes_ok}
 use Rattle.site.specs.States.{Done, State, book, fault_by, row}
@@ -24,7 +25,7 @@ use Rattle.protocol.specs.Updates.{pick, upd, upd_other, upd_same}
 use Rattle.protocol.specs.Model as model
 use Rattle.protocol.specs.Model.{active_replica, made, made_replica}
 use Rattle.runs.specs.History.{opened}
-use Rattle.runs.proofs.Bond.{Bond, ReplicaR, StatusR, the_length}
+use Rattle.runs.proofs.Bond.{Bond, ReplicaR, StatusR, the_length, OwnR}
 use Rattle.runs.proofs.Frame.{replica_as}
 
 -- What a taken make was asked
@@ -68,6 +69,14 @@ made_row_below : (n c : ℕ) → n ≤ 7 → c < n → get_or (map (made_row n) 
 made_row_below n c most below =
     get_or-map-range_with_len (made_row n) 0 7 c c down_record (omega arith) (omega arith) ∙ ap (λ b. cond b (first_record (controller_of c)) down_record) (lt-ltb c n below)
 
+-- and down from n on, also beyond the table
+made_row_rest : (n c : ℕ) → n ≤ c → get_or (map (made_row n) (range_with_len 0 7)) c down_record ≡ down_record
+made_row_rest n c above = by (cases_lt c 7)
+  where
+    by : (c < 7) ⊎ (7 ≤ c) → get_or (map (made_row n) (range_with_len 0 7)) c down_record ≡ down_record
+    by (inl low) = get_or-map-range_with_len (made_row n) 0 7 c c down_record low (omega arith) ∙ ap (λ b. cond b (first_record (controller_of c)) down_record) (le-ltb c n above)
+    by (inr high) = get_or-eq_default (map (made_row n) (range_with_len 0 7)) down_record high
+
 none_at : {A : Type 0} (k d : ℕ) → get_or {A = Option A} (replicate k None) d None ≡ None
 none_at zero d = refl
 none_at (suc k) zero = refl
@@ -91,6 +100,10 @@ module _ {E : Type 0} (blank : ℕ → model.Entry E) where
   first_status_at n zero = (refl, refl, refl, λ d below. first_length d)
   first_status_at n (suc c) = subst (λ b. StatusR n (suc c) (first_status b) (active_replica blank (suc c))) (sym (ne_eqb (suc c) 0 (λ e. omega arith))) refl
 
+  first_own : (c : ℕ) → OwnR c 0 (first_status (eqb c 0))
+  first_own zero = refl
+  first_own (suc c) = subst (λ b. OwnR (suc c) 0 (first_status b)) (sym (ne_eqb (suc c) 0 (λ e. omega arith))) tt
+
   first_replica : (n c : ℕ) (b : List (Entry E)) → ReplicaR n c (first_record (controller_of c)) zero_row b (active_replica blank c)
   first_replica n c b =
       record {
@@ -100,6 +113,7 @@ module _ {E : Type 0} (blank : ℕ → model.Entry E) where
         complete = refl;
         primary = refl;
         log = record { len = refl; within = omega arith; same = λ j e below read. absurd (not-suc-le-zero below); small = λ j e below read. absurd (not-suc-le-zero below) };
+        own = first_own c;
       }
 
 module _ {E : Type 0} (s : State E) (n cap : ℕ) where
@@ -112,7 +126,7 @@ module _ {E : Type 0} (s : State E) (n cap : ℕ) where
       → (sizes_ok n cap (length s.books) (length s.pool) ≡ true) × (cells_zero s.cells n ≡ true)
   made_yes x = by (sizes_ok n cap (length s.books) (length s.pool)) (cells_zero s.cells n)
     where
-      by : (a b : Bool) → (asks {A = Done (Unit {0}) E} (q NotMade a ∷ q CellsUsed b ∷ []) (λ k. record { result = Err (fault_by (controller_of 0) k); state = s }) (record { result = Ok tt; state = made_state })).result ≡ Ok x
+      by : (a b : Bool) → (asks {A = Done (Unit {0}) E} (ask a NotMade ∷ ask b CellsUsed ∷ []) (λ k. record { result = Err (fault_by (controller_of 0) k); state = s }) (record { result = Ok tt; state = made_state })).result ≡ Ok x
           → (a ≡ true) × (b ≡ true)
       by true true e = (refl, refl)
       by true false e = let z : ◌≡◌ {A = ℕ} 0 1 = cc in let no : ⊥ = omega arith in absurd no
@@ -125,22 +139,15 @@ module _ {E : Type 0} (says : E → Question → Option Light) (unsettled : Ligh
     bond_there =
         let fit : Sizes n cap (length s.books) (length s.pool) = sizes_of n cap (length s.books) (length s.pool) sizes in
         record {
-          made = refl;
-          size = refl;
-          least = fit.least;
-          most = fit.most;
-          cap_most = fit.cap_most;
-          books_long = fit.books_long;
-          pool_long = refl;
-          pool_holds = omega arith;
-          rows_long = refl;
-          cells_long = cells_long;
+          sizes = record { made = refl; size = refl; least = fit.least; most = fit.most; cap_most = fit.cap_most };
+          memory = record { books_long = fit.books_long; pool_long = refl; rows_long = refl; cells_long = cells_long };
           replicas = λ c below.
               subst (ReplicaR n c (row (made_state s n cap) (controller_of c)) (cell_at s.cells c).row (book (made_state s n cap) (controller_of c))) (sym (made_replica_below blank n c below))
               (replica_as n c (first_record (controller_of c)) (row (made_state s n cap) (controller_of c)) zero_row (cell_at s.cells c).row
               (book (made_state s n cap) (controller_of c)) (book (made_state s n cap) (controller_of c)) (active_replica blank c)
               (made_row_below n c fit.most below) (zero_at s.cells n c zeros below) refl (first_replica blank n c (book (made_state s n cap) (controller_of c))));
-          messages = λ j x below read. absurd (not-suc-le-zero below);
+          rest = made_row_rest n;
+          messages = record { holds = omega arith; known = λ j x below read. absurd (not-suc-le-zero below) };
           histories = ((refl, omega arith, record { long = refl; same = λ j e read. absurd (none-some e read); small = λ j e read. absurd (none-some e read) }), tt);
         }
 

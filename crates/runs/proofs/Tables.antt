@@ -1,4 +1,4 @@
--- One entry more in a manager's table of answers, or in a primary's of lengths. Assumes nothing.
+-- One entry more in a manager's table of answers, or in a primary's of lengths.
 use Rattle.std.proofs.Common.{◌≡◌, ℕ, ◌<◌, ◌≤◌, Bool, true, false, cond, eqb, List, length, get_or, set, replicate, Some, None, Option, sym, ap, ◌∙◌, subst, arith, length-set}
 use native.Mathlib.Decide.{ℕ_discrete}
 use lib.ListN.{get_or-replicate}

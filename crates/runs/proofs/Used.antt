@@ -1,4 +1,4 @@
--- The entries that a controller uses, and the first of them, are the book of its replica. Assumes nothing.
+-- The entries that a controller uses, and the first of them, are the book of its replica.
 use Rattle.std.proofs.Common.{ℕ, ◌≤◌, List, take, arith, length-take}
 use Rattle.numbers.specs.declared.rows.Row.{Row}
 use Rattle.entries.specs.declared.book.Entry.{Entry}

@@ -1,8 +1,8 @@
--- A slip that is settled is a step of the protocol. Assumes nothing.
+-- A slip that is settled is a step of the protocol.
 use Rattle.std.proofs.Common.{◌≡◌, ℕ, suc, ◌-◌, ◌<◌, ◌≤◌, Bool, true, false, cond, not, ◌&&◌, ltb, leb, ◌≢◌, ◌⊎◌, List, [], ◌∷◌, ◌++◌, get_or, take, Some, None, Ok, Err, Option, sym, refl, ap, ◌∙◌, subst, inl, inr, arith}
 use Rattle.std.proofs.lemmas.Bool.{and_parts, cond_both, false≢true, leb-true, not-true}
 use Rattle.std.proofs.lemmas.Bool.Decides.{nat_tests as tests}
-use Rattle.numbers.specs.declared.refusals.Refusal.TheVariants.{BadForm, WrongView}
+use Rattle.numbers.specs.declared.refusals.Refusal.TheVariants.{BadForm}
 use Rattle.numbers.specs.declared.views.ControllerNumber.{ControllerNumber}
 use Rattle.numbers.specs.declared.views.Stamp.{Stamp}
 use Rattle.numbers.specs.Views.{controller_of, earlier, place_ok, same_view, stamp_ok, view_ok}
@@ -16,28 +16,26 @@ use Rattle.controller.specs.declared.records.Status.TheVariants.{Down, Waiting, 
 use Rattle.controller.specs.declared.verdicts.Verdict.{Verdict}
 use Rattle.controller.specs.declared.verdicts.Verdict.TheVariants.{Confirmed, Lost, Waiting as Undecided}
 use Rattle.controller.specs.Books.{at_place, in_use, item}
-use Rattle.controller.specs.Primaries.{primary_asks}
-use Rattle.controller.specs.Questions.{q, refusal_at}
+use Rattle.controller.specs.declared.outcomes.Outcome.{Outcome}
 use Rattle.controller.specs.Records.{is_primary, is_up, leading, with_status}
-use Rattle.controller.specs.Verdicts.{holds, is_confirmed, is_lost, joined, judged, lengths_of, most, reaches, verdict_of}
-use Rattle.controller.proofs.Deeds.{asks_split}
-use Rattle.site.specs.States.{Done, State, book, row}
-use Rattle.site.specs.Steps.{placed, refuse, settle_step, site_asks}
+use Rattle.controller.specs.Verdicts.{holds, is_confirmed, is_lost, joined, lengths_in, most, reaches, settle, verdict_of}
+use Rattle.site.specs.States.{Done, State, book, done, row}
+use Rattle.site.specs.Steps.{refuse, step_at}
 use Rattle.protocol.specs.Majorities.{Majority}
 use Rattle.protocol.specs.Model as model
 use Rattle.protocol.specs.Model.{IsPrimary, Replica, Run, Site, note, then}
-use Rattle.runs.specs.declared.steps.Outcome.TheVariants.{Settled}
+use Rattle.controller.specs.declared.outcomes.Outcome.TheVariants.{Settled}
 use Rattle.runs.specs.declared.steps.Step.TheVariants.{Settle}
 use Rattle.runs.specs.History.{Event, book_at, confirmed, lost, tells, told, view_at}
-use Rattle.runs.specs.Runs.{step, stepped}
+use Rattle.runs.specs.Runs.{step}
 use Rattle.runs.proofs.Acting.{current_code, primary_leads, views_small}
 use Rattle.runs.proofs.Bond.{Bond, ReplicaR, Small, StatusR, code, the_length}
 use Rattle.runs.proofs.Codes.{earlier_code, other_code, same_code}
 use Rattle.runs.proofs.Frame.{frame_note}
 use Rattle.runs.proofs.Items.{at_item, cases_option, item_of_take, item_some, item_take}
 use Rattle.runs.proofs.Majorities.{majority_taken}
-use Rattle.runs.proofs.Ranges.{member_below, ok_small}
-use Rattle.runs.proofs.Simulated.{Simulated, stays}
+use Rattle.runs.proofs.Ranges.{ok_small}
+use Rattle.runs.proofs.Simulated.{Simulated, at_split, reads, stays}
 use Rattle.runs.proofs.Used.{book_front, used_book}
 
 -- What a book that holds a slip's entry has, and what one that does not lacks
@@ -81,7 +79,7 @@ joined_same (Some l) a e = grind (arith, tests)
 module _ {E : Type 0} (n c : ℕ) (low : n ≤ 7) (x : Controller) (r : Replica E) (test : Option ℕ → Bool) (pass : ℕ → Bool) where
   most_status : ((o : Option ℕ) (a : ℕ) → a ≡ the_length o → test o ≡ pass a) → (t : Status) → StatusR n c t r → leading t ≡ true
       → most n test (with_status x t) ≡ true → Majority n (λ d. pass (r.acknowledged d))
-  unfolding lengths_of
+  unfolding lengths_in
   most_status agree Down k h m = absurd (false≢true h)
   most_status agree Waiting k h m = absurd (false≢true h)
   most_status agree (Manager a) k h m = absurd (false≢true h)
@@ -115,7 +113,7 @@ module _ {E : Type 0} (says : E → Question → Option Light) (unsettled : Ligh
       majority : (test : Option ℕ → Bool) (pass : ℕ → Bool) → ((o : Option ℕ) (a : ℕ) → a ≡ the_length o → test o ≡ pass a)
           → most s.site.n test (row s i) ≡ true → Majority n (λ d. pass (r.acknowledged d))
       majority test pass agree k =
-          most_status n i.number bond.most (row s i) r test pass agree (row s i).status bonded.status leads (subst (λ z. most z test (row s i) ≡ true) bond.size k)
+          most_status n i.number bond.sizes.most (row s i) r test pass agree (row s i).status bonded.status leads (subst (λ z. most z test (row s i) ≡ true) bond.sizes.size k)
 
       confirms : is_confirmed s.site.n (row s i) (book s i) t ≡ true → Sim s (confirmed t (view_at s i) (take (t.place.number - 1) (book_at s i)) ∷ h)
       confirms k =
@@ -163,21 +161,21 @@ module _ {E : Type 0} (says : E → Question → Option Light) (unsettled : Ligh
               (holds_false (row s i) (book s i) t low z short found.0 found.1)
               (sym (ap (λ y. y.view) (bonded.log.same (t.place.number - 1) found.0 short found.1)) ∙ e)
 
-  abbrev P : Stamp → Done Verdict E → Type 0
-  P t d = Sim d.state (tells s (Settle i t) (stepped Settled d).result d.state ++ h)
+  abbrev P : Stamp → Done (Outcome E) E → Type 0
+  P t d = Sim d.state (tells s (Settle i t) d.result d.state ++ h)
 
   pub sim_settle : (t : Stamp) → Sim (step says unsettled s (Settle i t)).state (told says unsettled h s (Settle i t))
   sim_settle t =
-      cond_both (stamp_ok t) (settle_step s i t) (refuse s (controller_of 0) BadForm) (P t)
-      (λ ok. asks_split (P t) (site_asks s i) (refuse s i) (placed s (judged s.site.n i (row s i) (book s i) t) s) (λ k. stays run bond)
-      (λ ys. asks_split (λ o. P t (placed s o s)) (primary_asks (row s i) (q WrongView (not (earlier (row s i).views.current t.view)) ∷ [])) (λ k. Err (refusal_at i k))
-      (Ok (verdict_of s.site.n (row s i) (book s i) t)) (λ k. stays run bond)
-      (λ zs. judging ok (member_below s.site.n n i bond.size ys.1.0) zs.0 zs.1.1.0)))
+      cond_both (stamp_ok t) (step_at s i (settle s.site.n t)) (refuse s (controller_of 0) BadForm) (P t)
+      (λ ok. at_split (P t) s i (settle s.site.n t) (λ f. stays run bond) n bond.sizes.size
+      (λ below zs room put. reads (P t) s i (settle s.site.n t) (λ f. stays run bond) refl (judging ok below zs.0 zs.1.1.0)))
       (λ _. stays run bond)
     where
-      judging : stamp_ok t ≡ true → i.number < n → is_up (row s i) ≡ true → is_primary (row s i) ≡ true
-          → P t (placed s (Ok (verdict_of s.site.n (row s i) (book s i) t)) s)
+      J : Verdict → Type 0
+      J v = P t (done (Ok (Settled v)) s)
+
+      judging : stamp_ok t ≡ true → i.number < n → is_up (row s i) ≡ true → is_primary (row s i) ≡ true → J (verdict_of s.site.n (row s i) (book s i) t)
       judging ok below up leads =
-          cond_both (is_confirmed s.site.n (row s i) (book s i) t) Confirmed (cond (is_lost s.site.n (row s i) (book s i) t) Lost Undecided) (λ v. P t (placed s (Ok v) s))
+          cond_both (is_confirmed s.site.n (row s i) (book s i) t) Confirmed (cond (is_lost s.site.n (row s i) (book s i) t) Lost Undecided) J
           (λ k. confirms below t ok up leads k)
-          (λ _. cond_both (is_lost s.site.n (row s i) (book s i) t) Lost Undecided (λ v. P t (placed s (Ok v) s)) (λ k. loses below t ok up leads k) (λ _. stays run bond))
+          (λ _. cond_both (is_lost s.site.n (row s i) (book s i) t) Lost Undecided J (λ k. loses below t ok up leads k) (λ _. stays run bond))

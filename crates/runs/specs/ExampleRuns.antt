@@ -1,4 +1,4 @@
--- Three runs of card changes at three controllers, and their histories: what the guarantee speaks of occurs. Assumes nothing.
+-- Three runs of card changes at three controllers, and their histories: what the guarantee speaks of occurs.
 use Rattle.std.specs.Prelude.{◌≡◌, true, false, List, [], ◌∷◌, replicate}
 use Rattle.numbers.specs.Views.{controller_of, place_of, stamp_of, view_of}
 use Rattle.entries.specs.declared.book.Body.TheVariants.{Invitation}

@@ -1,4 +1,4 @@
--- The guarantee on confirmed changes, over the history of any list of steps. Assumes nothing.
+-- The guarantee on confirmed changes, over the history of any list of steps.
 use Rattle.std.specs.Prelude.{◌≡◌, ℕ, ◌-◌, ◌≤◌, true, List, [], ◌∷◌, ◌++◌, length, take, Some, Ok, Option, ◌≢◌}
 use Rattle.numbers.specs.declared.views.Stamp.{Stamp}
 use Rattle.numbers.specs.declared.views.View.{View}

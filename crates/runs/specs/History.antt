@@ -1,4 +1,4 @@
--- The history of a list of steps: what is read off the steps that were taken. Assumes nothing.
+-- The history of a list of steps: what is read off the steps that were taken.
 use Rattle.std.specs.Prelude.{◌-◌, Bool, cond, ◌&&◌, List, [], ◌∷◌, ◌++◌, take, Ok, Option, Result, ◌==◌}
 use Rattle.numbers.specs.declared.views.ControllerNumber.{ControllerNumber}
 use Rattle.numbers.specs.declared.views.Stamp.{Stamp}
@@ -15,8 +15,8 @@ use Rattle.controller.specs.declared.verdicts.Verdict.TheVariants.{Confirmed, Lo
 use Rattle.controller.specs.Books.{in_use}
 use Rattle.site.specs.declared.faults.Fault.{Fault}
 use Rattle.site.specs.States.{State, book, row}
-use Rattle.runs.specs.declared.steps.Outcome.{Outcome}
-use Rattle.runs.specs.declared.steps.Outcome.TheVariants.{Changed, Settled, Answered, Delivered}
+use Rattle.controller.specs.declared.outcomes.Outcome.{Outcome}
+use Rattle.controller.specs.declared.outcomes.Outcome.TheVariants.{Changed, Settled, Answered, Delivered}
 use Rattle.runs.specs.declared.steps.Step.{Step}
 use Rattle.runs.specs.declared.steps.Step.TheVariants.{Change, Deliver, Settle, Lookup}
 use Rattle.runs.specs.Runs.{step}

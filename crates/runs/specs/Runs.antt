@@ -1,4 +1,4 @@
--- One step of a site, and a list of them. Assumes nothing.
+-- One step of a site, and a list of them.
 use Rattle.std.specs.Prelude.{cond, List, [], ◌∷◌, Some, Ok, Err, Option, Result}
 use Rattle.numbers.specs.declared.refusals.Refusal.TheVariants.{BadForm}
 use Rattle.numbers.specs.declared.views.ControllerNumber.{ControllerNumber}
@@ -6,27 +6,22 @@ use Rattle.numbers.specs.declared.views.Stamp.{Stamp}
 use Rattle.numbers.specs.Views.{controller_of, stamp_ok}
 use Rattle.entries.specs.declared.kinds.Answer.{Answer}
 use Rattle.entries.specs.declared.kinds.Question.{Question}
+use Rattle.controller.specs.declared.outcomes.Outcome.{Outcome}
 use Rattle.controller.specs.declared.slips.Settled.{Settled as Settlement}
 use Rattle.controller.specs.declared.slips.Settled.TheVariants.{Confirmed as IsConfirmed, Lost as IsLost, Waiting as StillWaiting}
 use Rattle.controller.specs.declared.verdicts.Verdict.{Verdict}
 use Rattle.controller.specs.declared.verdicts.Verdict.TheVariants.{Confirmed, Lost, Waiting}
-use Rattle.controller.specs.Slips.{stamp_on}
+use Rattle.controller.specs.Lookups.{lookup}
+use Rattle.controller.specs.Power.{crash, recover}
+use Rattle.controller.specs.Primaries.{change, pass}
+use Rattle.controller.specs.Verdicts.{settle}
+use Rattle.controller.specs.ViewChanges.{call, form, invite}
 use Rattle.site.specs.declared.faults.Fault.{Fault}
-use Rattle.site.specs.States.{Done, State, done}
-use Rattle.site.specs.Steps.{call_step, change_step, crash_step, deliver_step, form_step, invite_step, join_step, lookup_step, lose_step, pass_step, recover_step, refuse, settle_step}
-use Rattle.runs.specs.declared.steps.Outcome.{Outcome}
-use Rattle.runs.specs.declared.steps.Outcome.TheVariants.{Changed, Settled, Answered, Formed, Delivered, Done as Taken}
+use Rattle.site.specs.States.{Done, State}
+use Rattle.site.specs.Steps.{deliver_step, join_step, lose_step, refuse, step_at, step_between}
 use Rattle.runs.specs.declared.steps.Step.{Step}
 use Rattle.runs.specs.declared.steps.Step.TheVariants.{Change, Pass, Call, Invite, Form, Deliver, Join, Settle, Lookup, Crash, Recover, Lose}
 use Rattle.runs.specs.declared.steps.Turn.{Turn}
-
--- what a call gave, as the outcome f of the step
-abbrev pub outcome_of : {A E : Type 0} → (A → Outcome E) → Result A Fault → Result (Outcome E) Fault
-outcome_of f (Ok x) = Ok (f x)
-outcome_of f (Err e) = Err e
-
-abbrev pub stepped : {A E : Type 0} → (A → Outcome E) → Done A E → Done (Outcome E) E
-stepped f d = done (outcome_of f d.result) d.state
 
 abbrev pub verdict_in : Settlement → Verdict
 verdict_in IsConfirmed = Confirmed
@@ -34,24 +29,24 @@ verdict_in IsLost = Lost
 verdict_in (StillWaiting slip) = Waiting
 
 -- the slip is taken up from its numbers first
-abbrev pub settle_numbers : {E : Type 0} → State E → ControllerNumber → Stamp → Done Verdict E
-settle_numbers s i t = cond (stamp_ok t) (settle_step s i t) (refuse s (controller_of 0) BadForm)
+abbrev pub settle_step : {E : Type 0} → State E → ControllerNumber → Stamp → Done (Outcome E) E
+settle_step s i t = cond (stamp_ok t) (step_at s i (settle s.site.n t)) (refuse s (controller_of 0) BadForm)
 
 module _ {E : Type 0} (says : E → Question → Option Answer) (unsettled : Answer) where
   -- what a step gives: its outcome or a fault, and the state after it
   abbrev pub step : State E → Step E → Done (Outcome E) E
-  step s (Change i x) = stepped (λ slip. Changed (stamp_on slip)) (change_step s i x)
-  step s (Pass i b k) = stepped (λ x. Taken) (pass_step s i b k)
-  step s (Call i) = stepped (λ x. Taken) (call_step s i)
-  step s (Invite i b) = stepped (λ x. Taken) (invite_step s i b)
-  step s (Form i) = stepped Formed (form_step s i)
-  step s (Deliver j) = stepped Delivered (deliver_step s j)
-  step s (Join i p) = stepped (λ x. Taken) (join_step s i p)
-  step s (Settle i t) = stepped Settled (settle_numbers s i t)
-  step s (Lookup i question) = stepped Answered (lookup_step s says unsettled i question)
-  step s (Crash i) = stepped (λ x. Taken) (crash_step s i)
-  step s (Recover i) = stepped (λ x. Taken) (recover_step s i)
-  step s (Lose j) = stepped (λ x. Taken) (lose_step s j)
+  step s (Change i x) = step_at s i (change x)
+  step s (Pass i b k) = step_between s i b (pass b k)
+  step s (Call i) = step_at s i call
+  step s (Invite i b) = step_between s i b (invite b)
+  step s (Form i) = step_at s i (form s.site.n)
+  step s (Deliver j) = deliver_step s j
+  step s (Join i p) = join_step s i p
+  step s (Settle i t) = settle_step s i t
+  step s (Lookup i question) = step_at s i (lookup says unsettled question)
+  step s (Crash i) = step_at s i crash
+  step s (Recover i) = step_at s i recover
+  step s (Lose j) = lose_step s j
 
   -- the state after a list of steps, refused ones included
   abbrev pub ran : State E → List (Step E) → State E

@@ -9,4 +9,5 @@ mod steps;
 pub use example_runs::guarantee_is_not_empty;
 pub use guarantees::confirmed_changes_stand;
 pub use playing::{resume, run};
-pub use steps::{Outcome, Step, Turn};
+pub use controller::Outcome;
+pub use steps::{Step, Turn};

@@ -4,15 +4,17 @@ ghost use Rattle.std.specs.Prelude.{◌≡◌, if◌then◌else◌, List, Ok, Er
 ghost use Rattle.numbers.specs.declared.refusals.Refusal.TheVariants.{BadForm};
 ghost use Rattle.numbers.specs.Views.{controller_of, stamp_ok};
 ghost use Rattle.cabinet.specs.declared.cells.Cell.{Cell};
+ghost use Rattle.controller.specs.declared.outcomes.Outcome.TheVariants.{Settled as Said};
+ghost use Rattle.controller.specs.Actions.{as_outcome};
 ghost use Rattle.controller.specs.Slips.{slip_of};
 ghost use Rattle.site.specs.Making.{make_step};
 ghost use Rattle.site.specs.States.{done, fault_by, state};
 ghost use Rattle.runs.specs.Guarantee.{GoesOn, Guarantee};
-ghost use Rattle.runs.specs.Runs.{made_and_ran, played, ran, ran_to, settle_numbers, step as step_of, steps_of, verdict_in};
+ghost use Rattle.runs.specs.Runs.{made_and_ran, played, ran, ran_to, settle_step, step as step_of, steps_of, verdict_in};
 
-use crate::steps::{Outcome, Step, Turn};
+use crate::steps::{Step, Turn};
 use cabinet::Cabinet;
-use controller::{Settled, Slip, Verdict};
+use controller::{Outcome, Settled, Slip, Verdict};
 use entries::{Entry, Kind, Message};
 use numbers::{ControllerNumber, Stamp};
 use site::{Fault, Site};
@@ -50,7 +52,7 @@ fn settle<E: Copy>(
     i: ControllerNumber,
     stamp: Stamp,
 ) -> Result<Verdict, Fault>
-    ensures { (cs : List Cell) → settle_numbers (state site.now cs books.now pool.now) i stamp ≡ done result (state site.now cs books.now pool.now) }
+    ensures { (cs : List Cell) → settle_step (state site.now cs books.now pool.now) i stamp ≡ done (as_outcome Said result) (state site.now cs books.now pool.now) }
 {
     let slip = take_up(stamp)?;
     // a match, and no `?`: a slip comes back with the fault, and has to be ended

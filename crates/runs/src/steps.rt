@@ -1,8 +1,8 @@
 //! The twelve steps as values, and what comes of them.
 ghost use Rattle.std.specs.Prelude.{◌≡◌, None};
 
-use controller::Verdict;
-use entries::{Answer, Message, Question};
+use controller::Outcome;
+use entries::Question;
 use numbers::{ControllerNumber, Place, Stamp};
 use site::Fault;
 
@@ -53,21 +53,6 @@ pub enum Step<E> {
     Lose {
         message: u16,
     },
-}
-
-/// What came of a step that was taken.
-#[derive(Clone, Copy, PartialEq, Eq, Debug)]
-pub enum Outcome<E> {
-    /// the stamp of the slip that was handed out
-    Changed { stamp: Stamp },
-    Settled { verdict: Verdict },
-    Answered { answer: Answer },
-    /// the controller that is to open the view
-    Formed { chosen: ControllerNumber },
-    /// the message that was taken
-    Delivered { message: Message<E> },
-    /// any other step
-    Done,
 }
 
 /// One step of a list, and what came of it: nothing before it was run.

@@ -1,5 +1,6 @@
 use Rattle.std.proofs.Common.{Ok, ap, ◌∙◌, sym}
 use Rattle.std.proofs.lemmas.Result.{err_from_is_err_and}
+use Rattle.controller.specs.declared.outcomes.Outcome.TheVariants.{Settled}
 use Rattle.site.specs.States.{done, state}
 use Rattle.runs.proofs.Settled.{settle_not_up, settle_up}
 use Rattle.runs.proofs.playing.settle.Goals as goal
@@ -12,7 +13,7 @@ returns-in_err-slip g c cs =
 pub returns-in-Ok : goal.returns-in-Ok
 returns-in-Ok g c cs =
     let s = state c.args.site.now cs c.args.books.now c.args.pool.now in
-    settle_up s c.args.i c.args.stamp c.in_ok-slip.slip _ c.in_ok-slip.ensures (c.in-Ok.ensures cs) ∙ ap (λ v. done (Ok v) s) (sym c.verdict.ensures)
+    settle_up s c.args.i c.args.stamp c.in_ok-slip.slip _ c.in_ok-slip.ensures (c.in-Ok.ensures cs) ∙ ap (λ v. done (Ok (Settled v)) s) (sym c.verdict.ensures)
 
 pub returns-in-Err : goal.returns-in-Err
 returns-in-Err g c cs =
