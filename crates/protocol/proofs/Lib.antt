@@ -1,4 +1,7 @@
-pub mod Cases
+pub mod Updates
+pub mod Members
+pub mod Majorities
+pub mod Views
 pub mod Invariant
 pub mod Growth
 pub mod Stable
@@ -11,13 +14,14 @@ pub mod Forgetting
 pub mod Promising
 pub mod Choosing
 pub mod Forming
-pub mod Entering
+pub mod Advancing
 pub mod Openings
 pub mod Opening
 pub mod Joining
 pub mod Appending
 pub mod Stamps
 pub mod Changing
+pub mod Start
 pub mod Runs
 pub mod Survival
 pub mod OneList
