@@ -1,28 +1,31 @@
 -- A replica that goes on: with one entry more in its view, or to a later view.
-use Rattle.std.proofs.Common.{◌≡◌, ℕ, suc, ◌≤◌, ◌<◌, ◌⊎◌, refl, sym, inl, inr, arith}
+use Rattle.std.proofs.Common.{◌≡◌, Bool, true, ℕ, suc, ◌≤◌, ◌<◌, ◌⊎◌, refl, sym, inl, inr, arith}
 use Rattle.std.proofs.lemmas.Bool.{cases_lt}
 use Rattle.protocol.specs.Updates.{upd}
 use Rattle.protocol.specs.Model.{active, Entry, Replica, View, appending, entering}
 use Rattle.protocol.proofs.Updates.{upd_all, upd_same}
-use Rattle.protocol.proofs.Invariant.{FloorOk, InLog, LookupOk, ReplicaOk}
+use Rattle.protocol.proofs.Invariant.{FloorOk, HeldOk, InLog, LookupOk, ReplicaOk}
 use Rattle.protocol.proofs.Growth.{ReplicaGrows, replica_active}
 
-module _ {E : Type 0} (R : ℕ → Replica E) (W : ℕ → View E) (c : ℕ) (r : Replica E) (h : ReplicaOk R W c r) where
-  -- its floors once it is active in v with the book (l, f)
-  floors_now : (v l : ℕ) (f : ℕ → Entry E) → r.current ≤ v → LookupOk (W v) l f
-      → (w : ℕ) → 1 ≤ upd r.floor v (suc l) w → FloorOk (W w) w (upd r.floor v (suc l) w) v
-  floors_now v l f up b = upd_all (λ w y. 1 ≤ y → FloorOk (W w) w y v) r.floor v (suc l)
+module _ {E : Type 0} {R : ℕ → Replica E} {W : ℕ → View E} {c : ℕ} {r : Replica E} (h : ReplicaOk R W c r) where
+  -- what it holds once it is active in v under p with the book (l, f)
+  held_now : (complete : Bool) (v p l : ℕ) (f : ℕ → Entry E) → r.current ≤ v → (complete ≡ true → (W v).opened_by ≡ suc p) → LookupOk (W v) l f
+      → HeldOk W v complete p l f (upd r.floor v (suc l))
+  held_now complete v p l f up led b = record {
+    its_book = λ q. record { led = led q; at_floor = upd_same r.floor v (suc l); begins = b.begins };
+    floors = upd_all (λ w y. 1 ≤ y → FloorOk (W w) w y v) r.floor v (suc l)
       (λ _. record { reached = omega arith; opens = b.begins.opens; above = omega (arith, b.above); within = omega (arith, b.begins.within) })
       (λ w _ k.
-      let g = h.floors w k in
-      record { reached = omega (arith, g.reached); opens = g.opens; above = g.above; within = g.within })
+      let g = h.held.floors w k in
+      record { reached = omega (arith, g.reached); opens = g.opens; above = g.above; within = g.within });
+  }
 
   -- One entry more
 
   module _ (e : Entry E) (acknowledged : ℕ → ℕ) (act : r.status ≡ active) where
     pub appending_grows : ReplicaGrows r (appending r e acknowledged)
     appending_grows =
-        let b = h.book (h.state.active_complete act) in
+        let b = h.held.its_book (h.state.active_complete act) in
         let same = h.state.active_current act in
         replica_active r (appending r e acknowledged) r.current (suc (suc r.length)) (omega arith) same (omega (arith, b.at_floor)) act
 
@@ -30,16 +33,15 @@ module _ {E : Type 0} (R : ℕ → Replica E) (W : ℕ → View E) (c : ℕ) (r 
     pub appending_ok : InLog (W r.current) r.length e → (r.primary ≡ c → (d : ℕ) → acknowledged d ≤ (R d).floor r.current) → ReplicaOk R W c (appending r e acknowledged)
     appending_ok there counted = record {
       state = h.state;
-      book = λ f. record { led = (h.book f).led; at_floor = upd_same r.floor r.current (suc (suc r.length)); begins = book_now.begins };
-      floors = floors_now r.current (suc r.length) (upd r.book r.length e) (omega arith) book_now;
+      held = held_now r.complete r.current r.primary (suc r.length) (upd r.book r.length e) (omega arith) (λ f. (h.held.its_book f).led) book_now;
       answers = h.answers;
       counted = λ _. counted;
     }
       where
         book_now : LookupOk (W r.current) (suc r.length) (upd r.book r.length e)
         book_now =
-            let b = h.book (h.state.active_complete act) in
-            let fl = h.floors r.current (omega (arith, b.at_floor)) in
+            let b = h.held.its_book (h.state.active_complete act) in
+            let fl = h.held.floors r.current (omega (arith, b.at_floor)) in
             record {
               begins = record {
                 opens = there.opens;
@@ -56,7 +58,7 @@ module _ {E : Type 0} (R : ℕ → Replica E) (W : ℕ → View E) (c : ℕ) (r 
     where
       go : (0 < r.floor v) ⊎ (r.floor v ≤ 0) → r.floor v ≡ 0
       go (inr k) = omega arith
-      go (inl k) = absurd (omega (arith, (h.floors v k).reached))
+      go (inl k) = absurd (omega (arith, (h.held.floors v k).reached))
 
   module _ (v p l : ℕ) (f : ℕ → Entry E) (acknowledged : ℕ → ℕ) where
     pub entering_grows : r.current < v → r.promised ≡ v → ReplicaGrows r (entering r v p l f acknowledged)
@@ -66,8 +68,7 @@ module _ {E : Type 0} (R : ℕ → Replica E) (W : ℕ → View E) (c : ℕ) (r 
         → ReplicaOk R W c (entering r v p l f acknowledged)
     entering_ok later led b counted = record {
       state = record { ordered = omega arith; idle = λ a. absurd a; active_complete = λ _. refl; active_current = λ _. refl };
-      book = λ _. record { led = led; at_floor = upd_same r.floor v (suc l); begins = b.begins };
-      floors = floors_now v l f later b;
+      held = held_now true v p l f later (λ _. led) b;
       answers = λ m. absurd (cc);
       counted = λ _. counted;
     }

@@ -30,6 +30,6 @@ module _ {E : Type 0} (n : ℕ) (s : Site E) (inv : Invariant n s) where
 
     pub entry_ok : Invariant n site'
     entry_ok =
-        step_replica n s inv b replica' site'.pool (appending_grows s.replicas s.views b r (inv.replica_ok b) e r.acknowledged act)
-        (λ old. appending_ok site'.replicas site'.views b r (old.replica b) e r.acknowledged act there ((old.replica b).counted act))
+        step_replica n s inv b replica' site'.pool (appending_grows (inv.replica_ok b) e r.acknowledged act)
+        (λ old. appending_ok (old.replica b) e r.acknowledged act there ((old.replica b).counted act))
         (λ old. each_last (λ m. MessageOk n site'.replicas site'.views m) s.pool (acknowledgement b p v (suc r.length)) old.message (omega (arith, floor_is)))

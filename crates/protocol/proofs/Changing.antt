@@ -64,7 +64,7 @@ module _ {E : Type 0} (n : ℕ) (s : Site E) (inv : Invariant n s) where
 
     site_grows : Grows s.replicas site'.replicas s.views site'.views
     site_grows = record {
-      replica = one_replica s.replicas i replica' (appending_grows s.replicas s.views i r (inv.replica_ok i) e acknowledged primary.is_active);
+      replica = one_replica s.replicas i replica' (appending_grows (inv.replica_ok i) e acknowledged primary.is_active);
       view = one_view s.views v view' (record { opened_by_fix = λ d h. h; formed_for_fix = λ d h. h; log = λ h. log_grows });
     }
 
@@ -126,10 +126,10 @@ module _ {E : Type 0} (n : ℕ) (s : Site E) (inv : Invariant n s) where
 
     pub change_ok : Invariant n site'
     change_ok =
-        let old = still n s inv site'.replicas site'.views site_grows in
+        let old = still n s inv site_grows in
         record {
           replica_ok = upd_all (λ d y. ReplicaOk site'.replicas site'.views d y) s.replicas i replica'
-              (appending_ok site'.replicas site'.views i r (old.replica i) e acknowledged primary.is_active
+              (appending_ok (old.replica i) e acknowledged primary.is_active
               (subst (λ j. InLog (site'.views v) j e) log_is there)
               (λ b. upd_all (λ d y. y ≤ (site'.replicas d).floor v) r.acknowledged i (suc (suc l)) (omega (arith, floor_is))
               (λ d _. (old.replica i).counted primary.is_active b d)))

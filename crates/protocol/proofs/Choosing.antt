@@ -57,7 +57,7 @@ module _ {E : Type 0} (n : ℕ) (s : Site E) (inv : Invariant n s) (v : ℕ) (a 
         let b = (ok_of d (crashed u) e).upto w w_before z in
         let q : w ≡ x = omega arith in
         let t = best.longest p hp m true ep in
-        let c = ((inv.replica_ok d).floors w z).within in
+        let c = ((inv.replica_ok d).held.floors w z).within in
         let f = (inv.view_ok x).led p (g.leads refl) in
         omega (arith, g.at_floor, ap (λ y. (s.views y).log_length) q))
 
@@ -99,13 +99,13 @@ module _ {E : Type 0} (n : ℕ) (s : Site E) (inv : Invariant n s) (v : ℕ) (a 
       current_is = ok_c.kept idle complete here
 
       length_is : length ≡ l
-      length_is = omega (arith, ((inv.replica_ok c).book complete).at_floor, ok_c.at_floor, ap (s.replicas c).floor current_is)
+      length_is = omega (arith, ((inv.replica_ok c).held.its_book complete).at_floor, ok_c.at_floor, ap (s.replicas c).floor current_is)
 
       begins : Begins (s.views x) length book
-      begins = subst (λ u. Begins (s.views u) length book) current_is ((inv.replica_ok c).book complete).begins
+      begins = subst (λ u. Begins (s.views u) length book) current_is ((inv.replica_ok c).held.its_book complete).begins
 
       above : (s.views x).opening_length ≤ length
-      above = omega (arith, ((inv.replica_ok c).floors x (omega (arith, ok_c.at_floor))).above, ok_c.at_floor, length_is)
+      above = omega (arith, ((inv.replica_ok c).held.floors x (omega (arith, ok_c.at_floor))).above, ok_c.at_floor, length_is)
 
       log : LogOk s.views x (s.views x).opening_length (s.views x).opening_book (s.views x).log_length (s.views x).log
       log = (inv.view_ok x).log begins.opens

@@ -18,8 +18,7 @@ module _ {E : Type 0} (n : ℕ) (s : Site E) (inv : Invariant n s) where
       let h = old.replica i in
       record {
         state = h.state;
-        book = h.book;
-        floors = h.floors;
+        held = h.held;
         answers = λ m. record {
           own = (h.answers m).own;
           each = upd_all (λ d b. AnswerOk (t.replicas d) t.views d r.promised b) r.answers c a
@@ -39,8 +38,7 @@ module _ {E : Type 0} (n : ℕ) (s : Site E) (inv : Invariant n s) where
       let h = old.replica p in
       record {
         state = h.state;
-        book = h.book;
-        floors = h.floors;
+        held = h.held;
         answers = h.answers;
         counted = λ a q. upd_all (λ d y. y ≤ (t.replicas d).floor r.current) r.acknowledged b (max (r.acknowledged b) (suc l))
             (omega (arith, h.counted a q b, old.message (acknowledgement b p v l) mem, ap (t.replicas b).floor here)) (λ d _. h.counted a q d);

@@ -25,8 +25,7 @@ module _ {E : Type 0} (n : ℕ) (s : Site E) (inv : Invariant n s) where
           active_complete = λ a. absurd (not_active a);
           active_current = λ a. absurd (not_active a);
         };
-        book = λ f. absurd (false≢true f);
-        floors = h.floors;
+        held = record { its_book = λ f. absurd (false≢true f); floors = h.held.floors };
         answers = λ m. absurd (not_manager m);
         counted = λ a. absurd (not_active a);
       })

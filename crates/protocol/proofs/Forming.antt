@@ -58,15 +58,14 @@ module _ {E : Type 0} (n : ℕ) (s : Site E) (inv : Invariant n s) where
 
     pub form_ok : Invariant n site'
     form_ok =
-        let old = still n s inv site'.replicas site'.views site_grows in
+        let old = still n s inv site_grows in
         let h = old.replica i in
         let k = old.view v in
         record {
           replica_ok = upd_all (λ d y. ReplicaOk site'.replicas site'.views d y) s.replicas i replica'
               (record {
                 state = record { ordered = h.state.ordered; idle = λ a f. h.state.idle idle_now f; active_complete = λ a. absurd (cc); active_current = λ a. absurd (cc) };
-                book = h.book;
-                floors = h.floors;
+                held = h.held;
                 answers = λ m. absurd (cc);
                 counted = λ a. absurd (cc);
               })
@@ -87,7 +86,7 @@ module _ {E : Type 0} (n : ℕ) (s : Site E) (inv : Invariant n s) where
           message_ok = each_last (λ m. MessageOk n site'.replicas site'.views m) s.pool (formation i c v) old.message (record {
             named = ap (λ y. y.formed_for) (upd_same s.views v view');
             past = omega (arith, past, (site_grows.replica c).promised_up);
-            ready = ready_stable s.replicas site'.replicas s.views site'.views site_grows n c v past
+            ready = ready_stable site_grows n c v past
                 (chosen_safe n s inv v (s.replicas i).answers ((inv.replica_ok i).answers manages).each x l best rule c p answered);
           });
           event_ok = old.event;

@@ -17,12 +17,12 @@ module _ {E : Type 0} (n : ℕ) (s : Site E) (inv : Invariant n s) where
     pub message : (m : Message E) → Member m s.pool → MessageOk n R W m
     pub event : (x : Event E) → Member x s.history → EventOk n R W x
 
-  pub still : (R : ℕ → Replica E) (W : ℕ → View E) → Grows s.replicas R s.views W → Still R W
-  still R W grows = record {
-    replica = λ c. replica_stable s.replicas R s.views W grows c (s.replicas c) (inv.replica_ok c);
-    view = λ w. view_stable s.replicas R s.views W grows w (s.views w) (inv.view_ok w);
-    message = λ m h. message_stable s.replicas R s.views W grows n m (inv.message_ok m h);
-    event = λ x h. event_stable s.replicas R s.views W grows n x (inv.event_ok x h);
+  pub still : {R : ℕ → Replica E} {W : ℕ → View E} → Grows s.replicas R s.views W → Still R W
+  still grows = record {
+    replica = λ c. replica_stable grows c (s.replicas c) (inv.replica_ok c);
+    view = λ w. view_stable grows w (s.views w) (inv.view_ok w);
+    message = λ m h. message_stable grows n m (inv.message_ok m h);
+    event = λ x h. event_stable grows n x (inv.event_ok x h);
   }
 
   -- other messages
@@ -51,7 +51,7 @@ module _ {E : Type 0} (n : ℕ) (s : Site E) (inv : Invariant n s) where
     pub step_replica : (Still R s.views → ReplicaOk R s.views i r) → (Still R s.views → (m : Message E) → Member m ms → MessageOk n R s.views m)
         → Invariant n (record s { replicas = R; pool = ms })
     step_replica here messages =
-        let old = still R s.views (record { replica = one_replica s.replicas i r grows; view = λ w. view_same w (s.views w) }) in
+        let old : Still R s.views = still (record { replica = one_replica s.replicas i r grows; view = λ w. view_same w (s.views w) }) in
         record {
           replica_ok = upd_all (λ c x. ReplicaOk R s.views c x) s.replicas i r (here old) (λ c _. old.replica c);
           view_ok = old.view;

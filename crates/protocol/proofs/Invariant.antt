@@ -82,13 +82,13 @@ module _ {E : Type 0} where
     pub in_book : k ≤ l
     pub late : (j : ℕ) → V.opening_length ≤ j → j < l → w ≤ (f j).view
 
-  -- a majority was past the length k in the view w
-  pub record Past (n : ℕ) (R : ℕ → Replica E) (w k : ℕ) : Type 0 where
+  -- a majority had more than k entries in the view w
+  pub record MajorityHad (n : ℕ) (R : ℕ → Replica E) (w k : ℕ) : Type 0 where
     pub who : ℕ → Bool
     pub most : Majority n who
     pub had : (c : ℕ) → c < n → who c ≡ true → k < (R c).floor w
 
-  -- a majority will never be past the length k in the view w: it has promised later views, and did not get that far
+  -- a majority will never have more than k entries in the view w: it has promised later views, and did not get that far
   pub record Blocked (n : ℕ) (R : ℕ → Replica E) (w k : ℕ) : Type 0 where
     pub who : ℕ → Bool
     pub most : Majority n who
@@ -140,10 +140,14 @@ module _ {E : Type 0} where
     pub own : caller_of promised ≡ c
     pub each : (d : ℕ) → AnswerOk (R d) W d promised (answers d)
 
+  -- what a promise leaves as it is
+  pub record HeldOk (W : ℕ → View E) (current : ℕ) (complete : Bool) (primary length : ℕ) (book : ℕ → Entry E) (floor : ℕ → ℕ) : Type 0 where
+    pub its_book : complete ≡ true → BookOk (W current) primary (floor current) length book
+    pub floors : (w : ℕ) → 1 ≤ floor w → FloorOk (W w) w (floor w) current
+
   pub record ReplicaOk (R : ℕ → Replica E) (W : ℕ → View E) (c : ℕ) (r : Replica E) : Type 0 where
     pub state : StateOk r.status r.current r.promised r.complete
-    pub book : r.complete ≡ true → BookOk (W r.current) r.primary (r.floor r.current) r.length r.book
-    pub floors : (w : ℕ) → 1 ≤ r.floor w → FloorOk (W w) w (r.floor w) r.current
+    pub held : HeldOk W r.current r.complete r.primary r.length r.book r.floor
     pub answers : r.status ≡ manager → AnswersOk R W c r.promised r.answers
     -- a primary counts no more than what others had
     pub counted : r.status ≡ active → r.primary ≡ c → (d : ℕ) → r.acknowledged d ≤ (R d).floor r.current
@@ -207,13 +211,13 @@ module _ {E : Type 0} where
 
   pub record ConfirmedOk (n : ℕ) (R : ℕ → Replica E) (W : ℕ → View E) (w k : ℕ) (f : ℕ → Entry E) : Type 0 where
     pub begins : Begins (W w) k f
-    pub most : Past n R w k
+    pub most : MajorityHad n R w k
 
   pub record LostOk (n : ℕ) (R : ℕ → Replica E) (W : ℕ → View E) (w z k : ℕ) : Type 0 where
     pub opens : Opened (W w)
     pub later : z < w
     pub clear : k < (W w).log_length → ((W w).log k).view ≢ z
-    pub most : Past n R w 0
+    pub most : MajorityHad n R w 0
 
   abbrev pub EventOk : ℕ → (ℕ → Replica E) → (ℕ → View E) → Event E → Type 0
   EventOk n R W (handed w k x) = Unit {0}

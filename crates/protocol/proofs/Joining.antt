@@ -32,8 +32,8 @@ module _ {E : Type 0} (n : ℕ) (s : Site E) (inv : Invariant n s) where
     pub join_ok : Invariant n site'
     join_ok =
         step_replica n s inv i replica' site'.pool
-        (entering_grows s.replicas s.views i (s.replicas i) (inv.replica_ok i) v p l f (λ _. 0) (omega arith) refl)
-        (λ old. entering_ok site'.replicas site'.views i (s.replicas i) (old.replica i) v p l f (λ _. 0) (omega arith)
+        (entering_grows (inv.replica_ok i) v p l f (λ _. 0) (omega arith) refl)
+        (λ old. entering_ok (old.replica i) v p l f (λ _. 0) (omega arith)
         (ap (λ y. (s.views y).opened_by) (sym same) ∙ leads n s inv p primary)
         (subst (λ y. LookupOk (s.views y) l f) same (active_book n s inv p primary.is_active))
         (λ _ d. omega arith))

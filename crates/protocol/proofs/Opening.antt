@@ -44,7 +44,7 @@ module _ {E : Type 0} (n : ℕ) (s : Site E) (inv : Invariant n s) where
     formation_ok = inv.message_ok (formation i c v) mem
 
     book_ok : BookOk (s.views r.current) r.primary (r.floor r.current) l f
-    book_ok = (inv.replica_ok c).book complete
+    book_ok = (inv.replica_ok c).held.its_book complete
 
     later : r.current < v
     later = omega (arith, (inv.replica_ok c).state.idle idle_now complete)
@@ -58,11 +58,11 @@ module _ {E : Type 0} (n : ℕ) (s : Site E) (inv : Invariant n s) where
             let d : ℕ = pred (s.views v).opened_by in
             let e : (s.views v).opened_by ≡ suc d = omega arith in
             let q : d ≡ c = omega (arith, (inv.view_ok v).formed.own d e, formation_ok.named) in
-            absurd (omega (arith, (inv.view_ok v).led d e, ap (λ y. (s.replicas y).floor v) q, no_floor s.replicas s.views c r (inv.replica_ok c) v later))
+            absurd (omega (arith, (inv.view_ok v).led d e, ap (λ y. (s.replicas y).floor v) q, no_floor (inv.replica_ok c) v later))
 
     site_grows : Grows s.replicas site'.replicas s.views site'.views
     site_grows = record {
-      replica = one_replica s.replicas c replica' (entering_grows s.replicas s.views c r (inv.replica_ok c) v c l f acknowledged later here);
+      replica = one_replica s.replicas c replica' (entering_grows (inv.replica_ok c) v c l f acknowledged later here);
       view = one_view s.views v view' (record { opened_by_fix = λ d h. absurd (omega (arith, not_open)); formed_for_fix = λ d h. h; log = λ h. absurd (omega (arith, not_open)) });
     }
 
@@ -77,7 +77,7 @@ module _ {E : Type 0} (n : ℕ) (s : Site E) (inv : Invariant n s) where
         (record { begins = record { opens = omega arith; within = omega arith; same = λ j k. refl }; above = omega arith })
 
     source_now : (j : ℕ) → j < l → Source site'.views j (f j)
-    source_now j k = source_stable s.replicas site'.replicas s.views site'.views site_grows j (f j)
+    source_now j k = source_stable site_grows j (f j)
         (subst (λ y. Source s.views j y) (sym (book_ok.begins.same j k))
         (((inv.view_ok r.current).log book_ok.begins.opens).source j (omega (arith, book_ok.begins.within))))
 
@@ -88,7 +88,7 @@ module _ {E : Type 0} (n : ℕ) (s : Site E) (inv : Invariant n s) where
       led = λ d e.
           let q : d ≡ c = omega arith in
           omega (arith, floor_is, ap (λ y. (site'.replicas y).floor v) q);
-      safe = λ _ u k. safe_stable s.replicas site'.replicas s.views site'.views site_grows {n = n} (formation_ok.ready idle_now complete here u k);
+      safe = λ _ u k. safe_stable site_grows {n = n} (formation_ok.ready idle_now complete here u k);
     }
 
     told_here : Told v view' site'.history
@@ -107,10 +107,10 @@ module _ {E : Type 0} (n : ℕ) (s : Site E) (inv : Invariant n s) where
 
     pub open_ok : Invariant n site'
     open_ok =
-        let old = still n s inv site'.replicas site'.views site_grows in
+        let old = still n s inv site_grows in
         record {
           replica_ok = upd_all (λ d y. ReplicaOk site'.replicas site'.views d y) s.replicas c replica'
-              (entering_ok site'.replicas site'.views c r (old.replica c) v c l f acknowledged (omega (arith, later))
+              (entering_ok (old.replica c) v c l f acknowledged (omega (arith, later))
               (ap (λ y. y.opened_by) view_is) book_now
               (λ _. upd_all (λ d y. y ≤ (site'.replicas d).floor v) (λ _. 0) c (suc l) (omega (arith, floor_is)) (λ d _. omega arith)))
               (λ d _. old.replica d);

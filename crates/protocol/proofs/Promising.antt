@@ -36,15 +36,15 @@ module _ {E : Type 0} where
   answer_of_ok R W c r h t v a up = go r.complete refl
     where
       last : LastIn (promising r t v a) v r.current
-      last = record { past = omega arith; upto = λ w _ b. (h.floors w b).reached }
+      last = record { past = omega arith; upto = λ w _ b. (h.held.floors w b).reached }
 
       go : (b : Bool) → r.complete ≡ b
           → AnswerOk (promising r t v a) W c v (elim b [ true ↦ normal r.current r.length (eqb r.primary c) | false ↦ crashed r.current ])
       go true f = record {
         last = last;
         before = omega (arith, h.state.ordered);
-        at_floor = (h.book f).at_floor;
-        leads = λ e. (h.book f).led ∙ ap suc (eqb-true r.primary c e);
+        at_floor = (h.held.its_book f).at_floor;
+        leads = λ e. (h.held.its_book f).led ∙ ap suc (eqb-true r.primary c e);
         kept = λ _ _ _. refl;
       }
       go false f = last
@@ -86,8 +86,7 @@ module _ {E : Type 0} where
               active_complete = λ x. absurd (not_active x);
               active_current = λ x. absurd (not_active x);
             };
-            book = h.book;
-            floors = h.floors;
+            held = h.held;
             answers = answers;
             counted = λ x. absurd (not_active x);
           })

@@ -3,7 +3,7 @@ use Rattle.std.proofs.Common.{◌≡◌, ℕ, suc, ◌≤◌, ◌<◌, ltb, ◌�
 use Rattle.std.proofs.lemmas.Bool.{ltb-true}
 use Rattle.protocol.specs.Majorities.{Majority}
 use Rattle.protocol.specs.Model.{active, looked_up, confirmed, lost, Site, note, IsPrimary}
-use Rattle.protocol.proofs.Invariant.{Invariant, Past}
+use Rattle.protocol.proofs.Invariant.{Invariant, MajorityHad}
 use Rattle.protocol.proofs.Frame.{step_note}
 use Rattle.protocol.proofs.Active.{active_book, whole_log}
 
@@ -12,7 +12,7 @@ module _ {E : Type 0} (n : ℕ) (s : Site E) (inv : Invariant n s) where
   lookup_ok i a = step_note n s inv (looked_up (s.replicas i).current (s.replicas i).length (s.replicas i).book) inv.told_ok (active_book n s inv i a)
 
   -- a majority has acknowledged the length k to its primary
-  past : (i k : ℕ) → IsPrimary s i → Majority n (λ d. ltb k ((s.replicas i).acknowledged d)) → Past n s.replicas (s.replicas i).current k
+  past : (i k : ℕ) → IsPrimary s i → Majority n (λ d. ltb k ((s.replicas i).acknowledged d)) → MajorityHad n s.replicas (s.replicas i).current k
   past i k p most = record {
     who = λ d. ltb k ((s.replicas i).acknowledged d);
     most = most;

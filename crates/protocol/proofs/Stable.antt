@@ -39,7 +39,7 @@ use Rattle.protocol.proofs.Invariant.{
   LogOk,
   MessageOk,
   Opened,
-  Past,
+  MajorityHad,
   Ready,
   ReplicaOk,
   Safe,
@@ -50,7 +50,7 @@ use Rattle.protocol.proofs.Invariant.{
 use Rattle.protocol.proofs.Growth.{Grows, SameBook, ViewGrows}
 
 module _ {E : Type 0} where
-  module _ (R R' : ℕ → Replica E) (W W' : ℕ → View E) (grows : Grows R R' W W') where
+  module _ {R R' : ℕ → Replica E} {W W' : ℕ → View E} (grows : Grows R R' W W') where
     opens_stable : {w : ℕ} → Opened (W w) → Opened (W' w)
     opens_stable {w} h = let e = (grows.view w).opened_by_fix (pred (W w).opened_by) (omega arith) in omega arith
 
@@ -68,8 +68,8 @@ module _ {E : Type 0} where
         let up = (grows.view w).log h.opens in
         record { opens = opens_stable h.opens; below = omega (arith, h.below, up.log_length_up); same = up.log_fix j h.below ∙ h.same }
 
-    past_stable : {n w k : ℕ} → Past n R w k → Past n R' w k
-    past_stable {w} h = record { who = h.who; most = h.most; had = λ c a b. omega (arith, h.had c a b, (grows.replica c).floor_up w) }
+    had_stable : {n w k : ℕ} → MajorityHad n R w k → MajorityHad n R' w k
+    had_stable {w} h = record { who = h.who; most = h.most; had = λ c a b. omega (arith, h.had c a b, (grows.replica c).floor_up w) }
 
     -- Safe books
 
@@ -121,21 +121,20 @@ module _ {E : Type 0} where
         go e (inl k) = absurd (omega (arith, h.last.past))
         go e (inr k) = k.current ∙ h.kept k.idle k.complete (omega arith)
 
+    floor_stable : {w fl current : ℕ} → FloorOk (W w) w fl current → FloorOk (W' w) w fl current
+    floor_stable {w} h =
+        let up = (grows.view w).log h.opens in
+        record { reached = h.reached; opens = opens_stable h.opens; above = omega (arith, h.above, up.opening_length_fix); within = omega (arith, h.within, up.log_length_up) }
+
     pub replica_stable : (c : ℕ) (r : Replica E) → ReplicaOk R W c r → ReplicaOk R' W' c r
     replica_stable c r h = record {
       state = h.state;
-      book = λ f.
-          let b = h.book f in
-          record { led = (grows.view r.current).opened_by_fix r.primary b.led; at_floor = b.at_floor; begins = begins_stable b.begins };
-      floors = λ w k.
-          let fl = h.floors w k in
-          let up = (grows.view w).log fl.opens in
-          record {
-            reached = fl.reached;
-            opens = opens_stable fl.opens;
-            above = omega (arith, fl.above, up.opening_length_fix);
-            within = omega (arith, fl.within, up.log_length_up);
-          };
+      held = record {
+        its_book = λ f.
+            let b = h.held.its_book f in
+            record { led = (grows.view r.current).opened_by_fix r.primary b.led; at_floor = b.at_floor; begins = begins_stable b.begins };
+        floors = λ w k. floor_stable (h.held.floors w k);
+      };
       answers = λ m. record { own = (h.answers m).own; each = λ d. answer_stable d r.promised (r.answers d) ((h.answers m).each d) };
       counted = λ a p d. omega (arith, h.counted a p d, (grows.replica d).floor_up r.current);
     }
@@ -192,8 +191,8 @@ module _ {E : Type 0} where
       begins = begins_stable h.begins;
       above = omega (arith, h.above, ((grows.view w).log h.begins.opens).opening_length_fix);
     }
-    event_stable n (confirmed w k f) h = record { begins = begins_stable h.begins; most = past_stable h.most }
-    event_stable n (lost w z k) h = record { opens = opens_stable h.opens; later = h.later; clear = clear (cases_lt k (W w).log_length); most = past_stable h.most }
+    event_stable n (confirmed w k f) h = record { begins = begins_stable h.begins; most = had_stable h.most }
+    event_stable n (lost w z k) h = record { opens = opens_stable h.opens; later = h.later; clear = clear (cases_lt k (W w).log_length); most = had_stable h.most }
       where
         clear : (k < (W w).log_length) ⊎ ((W w).log_length ≤ k) → k < (W' w).log_length → ((W' w).log k).view ≢ z
         clear (inl b) a e = h.clear b (ap (λ x. x.view) (sym (((grows.view w).log h.opens).log_fix k b)) ∙ e)

@@ -41,8 +41,7 @@ module _ {E : Type 0} (n : ℕ) (blank : ℕ → Entry E) (some : 0 < n) where
   absent_ok : (c : ℕ) → ReplicaOk R W c (absent_replica blank)
   absent_ok c = record {
     state = record { ordered = omega arith; idle = λ a. absurd a; active_complete = λ a. absurd (cc); active_current = λ a. refl };
-    book = λ f. absurd (cc);
-    floors = λ w k. absurd (omega arith);
+    held = record { its_book = λ f. absurd (cc); floors = λ w k. absurd (omega arith) };
     answers = λ m. absurd (cc);
     counted = λ a. absurd (cc);
   }
@@ -52,7 +51,7 @@ module _ {E : Type 0} (n : ℕ) (blank : ℕ → Entry E) (some : 0 < n) where
       (record { begins = record { opens = omega arith; within = omega arith; same = λ j k. refl }; above = omega arith })
 
   active_ok : (c : ℕ) → ReplicaOk R W c (active_replica blank c)
-  active_ok c = entering_ok R W c (absent_replica blank) (absent_ok c) 0 0 0 blank (pick (ℕ_discrete c 0) (upd (λ _. 0) 0 1) (λ _. 0))
+  active_ok c = entering_ok (absent_ok c) 0 0 0 blank (pick (ℕ_discrete c 0) (upd (λ _. 0) 0 1) (λ _. 0))
       (omega arith) (ap (λ y. y.opened_by) view_is) empty_book
       (λ _ d. pick_all (λ a. a d ≤ (R d).floor 0) (ℕ_discrete c 0) (upd (λ _. 0) 0 1) (λ _. 0)
       (λ _. upd_all (λ b y. y ≤ (R b).floor 0) (λ _. 0) 0 1 (omega (arith, floor_is)) (λ b _. omega arith) d) (λ _. omega arith))

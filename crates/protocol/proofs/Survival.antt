@@ -4,7 +4,7 @@ use Rattle.std.proofs.lemmas.Bool.{cases_lt}
 use Rattle.protocol.specs.Model.{Entry, Replica, View, Site}
 use Rattle.protocol.specs.Guarantee.{Keeps}
 use Rattle.protocol.proofs.Majorities.{majorities_meet}
-use Rattle.protocol.proofs.Invariant.{Carries, ConfirmedOk, Invariant, LookupOk, LostOk, Opened, OpeningOk, Past, Safe, SafeTo}
+use Rattle.protocol.proofs.Invariant.{Carries, ConfirmedOk, Invariant, LookupOk, LostOk, Opened, OpeningOk, MajorityHad, Safe, SafeTo}
 
 module _ {E : Type 0} (n : ℕ) (s : Site E) (inv : Invariant n s) where
   abbrev R : ℕ → Replica E
@@ -14,7 +14,7 @@ module _ {E : Type 0} (n : ℕ) (s : Site E) (inv : Invariant n s) where
   W = s.views
 
   -- a book that is safe for w, where a majority was past the length k, carries w up to k
-  carries : (w k l : ℕ) (f : ℕ → Entry E) → Past n R w k → Safe n R W w l f → Carries (W w) w k l f
+  carries : (w k l : ℕ) (f : ℕ → Entry E) → MajorityHad n R w k → Safe n R W w l f → Carries (W w) w k l f
   carries w k l f most h = go (h k)
     where
       go : SafeTo n R W w k l f → Carries (W w) w k l f
@@ -33,8 +33,8 @@ module _ {E : Type 0} (n : ℕ) (s : Site E) (inv : Invariant n s) where
   lost_gone : (w z k v : ℕ) → LostOk n R W w z k → Opened (W v) → w < v → k < (W v).opening_length → ((W v).opening_book k).view ≢ z
   lost_gone w z k v c o h a e = go (carries w (W w).opening_length (W v).opening_length (W v).opening_book past ((inv.view_ok v).safe o w h)) (cases_lt k (W w).opening_length)
     where
-      past : Past n R w (W w).opening_length
-      past = record { who = c.most.who; most = c.most.most; had = λ d b q. ((inv.replica_ok d).floors w (c.most.had d b q)).above }
+      past : MajorityHad n R w (W w).opening_length
+      past = record { who = c.most.who; most = c.most.most; had = λ d b q. ((inv.replica_ok d).held.floors w (c.most.had d b q)).above }
 
       go : Carries (W w) w (W w).opening_length (W v).opening_length (W v).opening_book → (k < (W w).opening_length) ⊎ ((W w).opening_length ≤ k) → ⊥
       go g (inl b) = c.clear (omega (arith, g.begins.within)) (ap (λ x. x.view) (sym (g.begins.same k b)) ∙ e)
