@@ -14,10 +14,10 @@ module _ {E : Type 0} {R : ℕ → Replica E} {W : ℕ → View E} {c : ℕ} {r 
   held_now complete v p l f up led b = record {
     its_book = λ q. record { led = led q; at_floor = upd_same r.floor v (suc l); begins = b.begins };
     floors = upd_all (λ w y. 1 ≤ y → FloorOk (W w) w y v) r.floor v (suc l)
-      (λ _. record { reached = omega arith; opens = b.begins.opens; above = omega (arith, b.above); within = omega (arith, b.begins.within) })
-      (λ w _ k.
-      let g = h.held.floors w k in
-      record { reached = omega (arith, g.reached); opens = g.opens; above = g.above; within = g.within });
+        (λ _. record { reached = omega arith; opens = b.begins.opens; above = omega (arith, b.above); within = omega (arith, b.begins.within) })
+        (λ w _ k.
+        let g = h.held.floors w k in
+        record { reached = omega (arith, g.reached); opens = g.opens; above = g.above; within = g.within });
   }
 
   -- One entry more

@@ -1,5 +1,5 @@
 -- A replica that appends an entry sent to it keeps the invariant.
-use Rattle.std.proofs.Common.{◌≡◌, ℕ, suc, ◌≤◌, ◌<◌, sym, ap, subst, ◌∙◌, arith}
+use Rattle.std.proofs.Common.{◌≡◌, ℕ, suc, sym, ap, subst, ◌∙◌, arith}
 use Rattle.protocol.specs.Updates.{upd}
 use Rattle.protocol.specs.Members.{Member}
 use Rattle.protocol.specs.Model.{active, Entry, Replica, entry, acknowledgement, Site, appending, after_entry}

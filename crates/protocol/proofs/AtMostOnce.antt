@@ -1,5 +1,5 @@
 -- No stamp is handed out twice, and no view is opened twice.
-use Rattle.std.proofs.Common.{◌≡◌, ℕ, ◌≤◌, ◌<◌, ◌⊎◌, length, ap, inl, inr, arith}
+use Rattle.std.proofs.Common.{ℕ, ◌≤◌, ◌<◌, ◌⊎◌, length, ap, inl, inr, arith}
 use Rattle.std.proofs.lemmas.Bool.{cases_lt}
 use Rattle.protocol.specs.Model.{Site, View}
 use Rattle.protocol.specs.Guarantee.{handed_with, openings_of}

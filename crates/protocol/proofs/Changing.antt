@@ -10,7 +10,7 @@ use Rattle.protocol.proofs.Growth.{Grows, LogGrows, one_replica, one_view}
 use Rattle.protocol.proofs.Frame.{still}
 use Rattle.protocol.proofs.Active.{leads, whole_log}
 use Rattle.protocol.proofs.Advancing.{appending_grows, appending_ok}
-use Rattle.protocol.proofs.Stamps.{handed_elsewhere, handed_here}
+use Rattle.protocol.proofs.History.{handed_elsewhere, handed_here}
 
 module _ {E : Type 0} (n : ℕ) (s : Site E) (inv : Invariant n s) where
   module _ (i : ℕ) (x : E) (primary : IsPrimary s i) where
@@ -109,10 +109,10 @@ module _ {E : Type 0} (n : ℕ) (s : Site E) (inv : Invariant n s) where
         h = inv.told_ok v
 
         as_before : (k : ℕ) → k ≢ V.log_length → handed_with v k site'.history ≡ handed_with v k s.history
-        as_before k other = handed_elsewhere v l v k x s.history (λ _ q. other (omega (arith, log_is)))
+        as_before k other = handed_elsewhere s.history v l v k x (λ _ q. other (omega (arith, log_is)))
 
         given : handed_with v V.log_length site'.history ≡ x ∷ []
-        given = ap (λ k. handed_with v V.log_length (handed v k x ∷ s.history)) (sym log_is) ∙ handed_here v V.log_length x s.history
+        given = ap (λ k. handed_with v V.log_length (handed v k x ∷ s.history)) (sym log_is) ∙ handed_here s.history v V.log_length x
             ∙ ap (λ ys. x ∷ ys) (h.unused V.log_length (λ t. omega (arith, t.below)))
 
     told_elsewhere : (w : ℕ) → (v ≡ w → ⊥) → Told w (s.views w) site'.history
@@ -122,7 +122,7 @@ module _ {E : Type 0} (n : ℕ) (s : Site E) (inv : Invariant n s) where
         h = inv.told_ok w
 
         as_before : (k : ℕ) → handed_with w k site'.history ≡ handed_with w k s.history
-        as_before k = handed_elsewhere v l w k x s.history (λ q _. other q)
+        as_before k = handed_elsewhere s.history v l w k x (λ q _. other q)
 
     pub change_ok : Invariant n site'
     change_ok =

@@ -2,21 +2,8 @@
 use Rattle.std.proofs.Common.{◌≡◌, ℕ, ◌≤◌, ◌<◌, Bool, true, ◌⊎◌, refl, sym, ap, subst, ◌∙◌, inl, inr, arith}
 use Rattle.std.proofs.lemmas.Bool.{false≢true, cases_lt}
 use Rattle.protocol.specs.Majorities.{Majority}
-use Rattle.protocol.specs.Model.{
-  Answer,
-  none,
-  crashed,
-  normal,
-  Entry,
-  Site,
-  is_normal,
-  is_answer,
-  Latest,
-  Rule,
-  normal_majority,
-  crashed_earlier,
-  primary_answered,
-}
+use Rattle.protocol.specs.Model.{Answer, none, crashed, normal, Entry, Site}
+use Rattle.protocol.specs.Model.{is_normal, is_answer, Latest, Rule, normal_majority, crashed_earlier, primary_answered}
 use Rattle.protocol.proofs.Invariant.{AnswerOk, Begins, Blocked, Carries, Invariant, LogOk, NormalOk, Ready, SafeTo}
 
 module _ {E : Type 0} (n : ℕ) (s : Site E) (inv : Invariant n s) (v : ℕ) (a : ℕ → Answer)

@@ -1,5 +1,5 @@
 -- A crash and a recovery, which forget all but the two views, keep the invariant.
-use Rattle.std.proofs.Common.{◌≡◌, ℕ, ◌≢◌, refl, arith}
+use Rattle.std.proofs.Common.{ℕ, ◌≢◌, refl, arith}
 use Rattle.std.proofs.lemmas.Bool.{false≢true}
 use Rattle.protocol.specs.Model.{Status, active, manager, Site, forgetting, with_replica}
 use Rattle.protocol.proofs.Invariant.{Invariant}

@@ -1,12 +1,12 @@
 -- What a step owes, for what it changes only, to keep the invariant.
-use Rattle.std.proofs.Common.{◌≡◌, ℕ, List, [], ◌∷◌, ◌++◌}
+use Rattle.std.proofs.Common.{ℕ, List, [], ◌∷◌, ◌++◌}
 use Rattle.protocol.specs.Updates.{upd}
 use Rattle.protocol.specs.Members.{Member}
 use Rattle.protocol.specs.Model.{Replica, View, Message, Event, Site, send, note, with_pool}
 use Rattle.protocol.proofs.Updates.{upd_all}
 use Rattle.protocol.proofs.Members.{each_first, each_last}
 use Rattle.protocol.proofs.Invariant.{EventOk, Invariant, MessageOk, ReplicaOk, Told, ViewOk}
-use Rattle.protocol.proofs.Growth.{Grows, ReplicaGrows, one_replica, replica_same, view_same}
+use Rattle.protocol.proofs.Growth.{Grows, ReplicaGrows, one_replica, view_same}
 use Rattle.protocol.proofs.Stable.{event_stable, message_stable, replica_stable, view_stable}
 
 module _ {E : Type 0} (n : ℕ) (s : Site E) (inv : Invariant n s) where

@@ -1,5 +1,5 @@
 -- How a step may change replicas and views: promises and logs only grow, and what a promise left behind stays.
-use Rattle.std.proofs.Common.{◌≡◌, ℕ, suc, ◌≤◌, ◌<◌, true, ◌⊎◌, refl, subst, inl, inr, arith}
+use Rattle.std.proofs.Common.{◌≡◌, ℕ, suc, ◌≤◌, ◌<◌, true, ◌⊎◌, refl, subst, inr, arith}
 use Rattle.protocol.specs.Updates.{upd}
 use Rattle.protocol.specs.Model.{Status, active, manager, Answer, Replica, View}
 use Rattle.protocol.proofs.Updates.{upd_all}

@@ -5,32 +5,8 @@ use Rattle.std.proofs.Common.{◌≡◌, ℕ, suc, ◌≤◌, ◌<◌, Bool, tru
 use Rattle.protocol.specs.Members.{Member}
 use Rattle.protocol.specs.Majorities.{Majority}
 use Rattle.protocol.specs.Views.{caller_of}
-use Rattle.protocol.specs.Model.{
-  Status,
-  active,
-  manager,
-  waiting,
-  Answer,
-  none,
-  crashed,
-  normal,
-  Entry,
-  Replica,
-  View,
-  Message,
-  invitation,
-  answer,
-  formation,
-  entry,
-  acknowledgement,
-  Event,
-  handed,
-  opening,
-  looked_up,
-  confirmed,
-  lost,
-  Site,
-}
+use Rattle.protocol.specs.Model.{Status, active, manager, waiting, Answer, none, crashed, normal, Entry, Replica, View, Site}
+use Rattle.protocol.specs.Model.{Message, invitation, answer, formation, entry, acknowledgement, Event, handed, opening, looked_up, confirmed, lost}
 use Rattle.protocol.specs.Guarantee.{handed_with, openings_of}
 
 -- up, and active in no view

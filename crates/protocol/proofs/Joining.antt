@@ -1,6 +1,5 @@
 -- A replica that joins a primary, with a copy of its book, keeps the invariant.
-use Rattle.std.proofs.Common.{◌≡◌, ℕ, suc, ◌≤◌, ◌<◌, refl, sym, ap, subst, ◌∙◌, arith}
-use Rattle.protocol.specs.Updates.{upd}
+use Rattle.std.proofs.Common.{◌≡◌, ℕ, suc, ◌<◌, refl, sym, ap, subst, ◌∙◌, arith}
 use Rattle.protocol.specs.Model.{Entry, Replica, acknowledgement, Site, entering, IsPrimary, after_join}
 use Rattle.protocol.proofs.Updates.{upd_same}
 use Rattle.protocol.proofs.Members.{each_last}

@@ -15,11 +15,10 @@ pub mod Promising
 pub mod Choosing
 pub mod Forming
 pub mod Advancing
-pub mod Openings
 pub mod Opening
 pub mod Joining
 pub mod Appending
-pub mod Stamps
+pub mod History
 pub mod Changing
 pub mod Start
 pub mod Runs

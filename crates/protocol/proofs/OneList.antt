@@ -2,7 +2,7 @@
 use Rattle.std.proofs.Common.{◌≡◌, ℕ, ◌≤◌, ◌<◌, ◌≢◌, ◌⊎◌, List, [], ◌∷◌, refl, sym, ap, ◌∙◌, inl, inr, arith}
 use Rattle.std.proofs.lemmas.Bool.{cases_lt}
 use Rattle.protocol.specs.Members.{Member}
-use Rattle.protocol.specs.Model.{Entry, Event, handed, opening, looked_up, confirmed, lost, Site}
+use Rattle.protocol.specs.Model.{Entry, Event, confirmed, lost, Site}
 use Rattle.protocol.specs.Guarantee.{Keeps, OneList}
 use Rattle.protocol.proofs.Invariant.{ConfirmedOk, EventOk, Invariant, LostOk}
 use Rattle.protocol.proofs.Survival.{confirmed_kept, not_both}
@@ -58,20 +58,14 @@ module _ {E : Type 0} (n : ℕ) (s : Site E) (inv : Invariant n s) where
       has v l g (inl e) = omega (arith, ap confirmed_length e)
       has v l g (inr q) = omega (arith, m.has v l g q)
 
-  with_event : (x : Event E) (xs : List (Event E)) → EventOk n s.replicas s.views x → Longest xs → Longest (x ∷ xs)
-  with_event (handed w k x) xs ok m = same_longest (handed w k x) xs m (omega arith)
-  with_event (opening w l f) xs ok m = same_longest (opening w l f) xs m (omega arith)
-  with_event (looked_up w l f) xs ok m = same_longest (looked_up w l f) xs m (omega arith)
-  with_event (lost w z k) xs ok m = same_longest (lost w z k) xs m (omega arith)
-  with_event (confirmed w k f) xs ok m = go (cases_lt m.length k)
-    where
-      go : (m.length < k) ⊎ (k ≤ m.length) → Longest (confirmed w k f ∷ xs)
-      go (inl h) = new_longest w k f xs ok m h
-      go (inr h) = same_longest (confirmed w k f) xs m h
+  with_event : (x : Event E) (xs : List (Event E)) → EventOk n s.replicas s.views x → (m : Longest xs) → (m.length < confirmed_length x) ⊎ (confirmed_length x ≤ m.length) → Longest (x ∷ xs)
+  with_event x xs ok m (inr h) = same_longest x xs m h
+  with_event (confirmed w k f) xs ok m (inl h) = new_longest w k f xs ok m h
+  with_event _ xs ok m (inl h) = absurd (omega arith)
 
   longest : (xs : List (Event E)) → ((x : Event E) → Member x xs → EventOk n s.replicas s.views x) → Longest xs
   longest [] ok = record { length = 0; book = (s.views 0).log; origin = inl refl; has = λ w k f h. absurd h }
-  longest (x ∷ xs) ok = with_event x xs (ok x (inl refl)) (longest xs (λ y h. ok y (inr h)))
+  longest (x ∷ xs) ok = let m = longest xs (λ y h. ok y (inr h)) in with_event x xs (ok x (inl refl)) m (cases_lt m.length (confirmed_length x))
 
   pub one_list : OneList s.history
   one_list = record {

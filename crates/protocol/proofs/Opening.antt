@@ -1,5 +1,5 @@
 -- A form message taken: its replica opens the view, and the invariant is kept.
-use Rattle.std.proofs.Common.{◌≡◌, ℕ, suc, pred, ◌≤◌, ◌<◌, true, ◌⊎◌, refl, sym, ap, subst, ◌∙◌, inl, inr, arith}
+use Rattle.std.proofs.Common.{◌≡◌, ℕ, suc, pred, ◌≤◌, ◌<◌, true, ◌⊎◌, length, refl, sym, ap, subst, ◌∙◌, inl, inr, arith}
 use Rattle.std.proofs.lemmas.Bool.{cases_lt}
 use Rattle.protocol.specs.Updates.{upd}
 use Rattle.protocol.specs.Members.{Member}
@@ -11,7 +11,7 @@ use Rattle.protocol.proofs.Growth.{Grows, one_replica, one_view}
 use Rattle.protocol.proofs.Stable.{safe_stable, source_stable}
 use Rattle.protocol.proofs.Frame.{still}
 use Rattle.protocol.proofs.Advancing.{entering_grows, entering_ok, no_floor}
-use Rattle.protocol.proofs.Openings.{opening_elsewhere, opening_here}
+use Rattle.protocol.proofs.History.{opening_elsewhere, opening_here}
 
 module _ {E : Type 0} (n : ℕ) (s : Site E) (inv : Invariant n s) where
   module _ (i c v : ℕ) (mem : Member (formation i c v) s.pool)
@@ -95,14 +95,14 @@ module _ {E : Type 0} (n : ℕ) (s : Site E) (inv : Invariant n s) where
     told_here = record {
       once = λ k t. absurd (omega (arith, t.above, t.below));
       unused = λ k _. (inv.told_ok v).unused k (λ t. omega (arith, t.opens, not_open));
-      opened = λ _. omega (arith, opening_here v l f s.history, (inv.told_ok v).unopened not_open);
+      opened = λ _. omega (arith, opening_here s.history v l f, (inv.told_ok v).unopened not_open);
       unopened = λ e. absurd (omega arith);
     }
 
     told_elsewhere : (w : ℕ) → (v ≡ w → ⊥) → Told w (s.views w) site'.history
     told_elsewhere w other =
-        let as_before = opening_elsewhere v l f w s.history other in
         let h = inv.told_ok w in
+        let as_before = ap length (opening_elsewhere s.history v l f w other) in
         record { once = h.once; unused = h.unused; opened = λ o. as_before ∙ h.opened o; unopened = λ e. as_before ∙ h.unopened e }
 
     pub open_ok : Invariant n site'

@@ -1,29 +1,12 @@
 -- Promises keep the invariant: a replica calls a view, or accepts an invitation to one.
-use Rattle.std.proofs.Common.{◌≡◌, ℕ, suc, ◌≤◌, ◌<◌, ◌≢◌, eqb, Bool, true, false, List, sym, ap, subst, ◌∙◌, refl, inl, arith}
+use Rattle.std.proofs.Common.{◌≡◌, ℕ, suc, ◌<◌, ◌≢◌, eqb, Bool, true, false, List, sym, ap, subst, ◌∙◌, refl, inl, arith}
 use Rattle.std.proofs.lemmas.Bool.{eqb-true}
 use Rattle.protocol.specs.Updates.{upd}
 use Rattle.protocol.specs.Members.{Member}
 use Rattle.protocol.specs.Views.{caller_of}
-use Rattle.protocol.specs.Model.{
-  Status,
-  active,
-  manager,
-  waiting,
-  Answer,
-  none,
-  crashed,
-  normal,
-  Replica,
-  View,
-  Message,
-  answer,
-  Site,
-  promising,
-  answer_of,
-  next_view,
-  after_call,
-  after_invitation,
-}
+use Rattle.protocol.specs.Model.{Status, active, manager, waiting, Answer, none, crashed, normal, Replica, View, Site}
+use Rattle.protocol.specs.Model.{Message, answer}
+use Rattle.protocol.specs.Model.{promising, answer_of, next_view, after_call, after_invitation}
 use Rattle.protocol.proofs.Updates.{upd_all, upd_same}
 use Rattle.protocol.proofs.Members.{each_last}
 use Rattle.protocol.proofs.Invariant.{AnswerOk, AnswersOk, Invariant, LastIn, MessageOk, ReplicaOk}

@@ -1,32 +1,8 @@
 -- Every site that a run reaches satisfies the invariant.
 use Rattle.std.proofs.Common.{ℕ, ◌<◌}
-use Rattle.protocol.specs.Model.{
-  waiting,
-  down,
-  Entry,
-  Site,
-  Next,
-  change,
-  pass,
-  call,
-  invite,
-  form,
-  deliver_invitation,
-  deliver_answer,
-  deliver_formation,
-  deliver_entry,
-  deliver_acknowledgement,
-  join,
-  settle_confirmed,
-  settle_lost,
-  lookup,
-  crash,
-  recover,
-  lose,
-  Run,
-  start,
-  then,
-}
+use Rattle.protocol.specs.Model.{waiting, down, Entry, Site}
+use Rattle.protocol.specs.Model.{Next, change, pass, call, invite, form, deliver_invitation, deliver_answer, deliver_formation, deliver_entry}
+use Rattle.protocol.specs.Model.{deliver_acknowledgement, join, settle_confirmed, settle_lost, lookup, crash, recover, lose, Run, start, then}
 use Rattle.protocol.proofs.Invariant.{Invariant}
 use Rattle.protocol.proofs.Sending.{invite_ok, lose_ok, pass_ok}
 use Rattle.protocol.proofs.Settling.{confirmed_ok, lookup_ok, lost_ok}

@@ -1,5 +1,5 @@
 -- Entries passed, invitations sent and messages lost keep the invariant.
-use Rattle.std.proofs.Common.{◌≡◌, ℕ, ◌<◌, List, sym, arith}
+use Rattle.std.proofs.Common.{ℕ, ◌<◌, List, sym, arith}
 use Rattle.protocol.specs.Members.{Member}
 use Rattle.protocol.specs.Model.{Message, invitation, entry, Site, with_pool, IsPrimary, after_pass, after_invite}
 use Rattle.protocol.proofs.Invariant.{Invariant}

@@ -1,5 +1,5 @@
 -- Lookups, and slips settled as confirmed or lost, keep the invariant.
-use Rattle.std.proofs.Common.{◌≡◌, ℕ, suc, ◌≤◌, ◌<◌, ltb, ◌≢◌, ap, ◌∙◌, arith}
+use Rattle.std.proofs.Common.{◌≡◌, ℕ, suc, ◌<◌, ltb, ◌≢◌, ap, ◌∙◌, arith}
 use Rattle.std.proofs.lemmas.Bool.{ltb-true}
 use Rattle.protocol.specs.Majorities.{Majority}
 use Rattle.protocol.specs.Model.{active, looked_up, confirmed, lost, Site, note, IsPrimary}

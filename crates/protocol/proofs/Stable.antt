@@ -1,53 +1,11 @@
 -- What holds of replicas and views holds of what they grow into.
-use Rattle.std.proofs.Common.{◌≡◌, ℕ, suc, pred, ◌≤◌, ◌<◌, true, ◌⊎◌, ◌≢◌, sym, ap, ◌∙◌, inl, inr, arith}
+use Rattle.std.proofs.Common.{◌≡◌, ℕ, pred, ◌≤◌, ◌<◌, ◌⊎◌, ◌≢◌, sym, ap, ◌∙◌, inl, inr, arith}
 use Rattle.std.proofs.lemmas.Bool.{cases_lt}
 use Rattle.protocol.specs.Views.{caller_of}
-use Rattle.protocol.specs.Model.{
-  manager,
-  Answer,
-  none,
-  crashed,
-  normal,
-  Entry,
-  Replica,
-  View,
-  Message,
-  invitation,
-  answer,
-  formation,
-  entry,
-  acknowledgement,
-  Event,
-  handed,
-  opening,
-  looked_up,
-  confirmed,
-  lost,
-}
-use Rattle.protocol.proofs.Invariant.{
-  AnswerOk,
-  AnswersOk,
-  Begins,
-  Blocked,
-  BookOk,
-  Carries,
-  EventOk,
-  FloorOk,
-  FormedOk,
-  InLog,
-  LastIn,
-  LogOk,
-  MessageOk,
-  Opened,
-  MajorityHad,
-  Ready,
-  ReplicaOk,
-  Safe,
-  SafeTo,
-  Source,
-  ViewOk,
-}
-use Rattle.protocol.proofs.Growth.{Grows, SameBook, ViewGrows}
+use Rattle.protocol.specs.Model.{manager, Answer, none, crashed, normal, Entry, Replica, View}
+use Rattle.protocol.specs.Model.{Message, invitation, answer, formation, entry, acknowledgement, Event, handed, opening, looked_up, confirmed, lost}
+use Rattle.protocol.proofs.Invariant.{AnswerOk, Begins, EventOk, FloorOk, FormedOk, InLog, LastIn, MessageOk, Opened, MajorityHad, Ready, ReplicaOk, Safe, SafeTo, Source, ViewOk}
+use Rattle.protocol.proofs.Growth.{Grows, SameBook}
 
 module _ {E : Type 0} where
   module _ {R R' : ℕ → Replica E} {W W' : ℕ → View E} (grows : Grows R R' W W') where

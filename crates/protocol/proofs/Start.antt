@@ -1,26 +1,15 @@
 -- The site that runs start from satisfies the invariant.
-use Rattle.std.proofs.Common.{◌≡◌, ℕ, suc, ◌≤◌, ◌<◌, [], ◌∷◌, ◌≢◌, refl, sym, ap, subst, arith}
+use Rattle.std.proofs.Common.{◌≡◌, ℕ, ◌≤◌, ◌<◌, [], ◌∷◌, length, ◌≢◌, refl, sym, ap, subst, arith}
 use Rattle.std.proofs.Math.Decide.{ℕ_discrete, dec_lt}
 use Rattle.protocol.specs.Updates.{pick, upd}
-use Rattle.protocol.specs.Model.{
-  manager,
-  Entry,
-  Replica,
-  View,
-  opening,
-  active_replica,
-  absent_replica,
-  made_replica,
-  first_view,
-  unopened_view,
-  made_view,
-  made,
-}
+use Rattle.protocol.specs.Model.{manager, Entry, Replica, View}
+use Rattle.protocol.specs.Model.{opening}
+use Rattle.protocol.specs.Model.{active_replica, absent_replica, made_replica, first_view, unopened_view, made_view, made}
 use Rattle.protocol.proofs.Updates.{pick_all, upd_all, upd_same}
 use Rattle.protocol.proofs.Members.{each_first}
 use Rattle.protocol.proofs.Invariant.{EventOk, Invariant, LookupOk, ReplicaOk, Told, ViewOk}
 use Rattle.protocol.proofs.Advancing.{entering_ok}
-use Rattle.protocol.proofs.Openings.{opening_elsewhere}
+use Rattle.protocol.proofs.History.{opening_elsewhere}
 
 module _ {E : Type 0} (n : ℕ) (blank : ℕ → Entry E) (some : 0 < n) where
   abbrev R : ℕ → Replica E
@@ -82,7 +71,7 @@ module _ {E : Type 0} (n : ℕ) (blank : ℕ → Entry E) (some : 0 < n) where
     once = λ k t. absurd (omega (arith, t.opens));
     unused = λ k _. refl;
     opened = λ h. absurd (omega arith);
-    unopened = λ _. opening_elsewhere 0 0 blank w [] (λ e. other (sym e));
+    unopened = λ _. ap length (opening_elsewhere [] 0 0 blank w (λ e. other (sym e)));
   }
 
   pub invariant_at_start : Invariant n (made n blank)

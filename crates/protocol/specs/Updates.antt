@@ -1,5 +1,5 @@
 -- A function changed at one place.
-use Rattle.std.specs.Prelude.{◌≡◌, ℕ}
+use Rattle.std.specs.Prelude.{ℕ}
 use Rattle.std.proofs.Math.Decide.{ℕ_discrete}
 
 abbrev pub pick : {X : Type 0} {P : Type 0} → Dec P → X → X → X
