@@ -3,10 +3,8 @@ use Rattle.std.proofs.Common.{◌≡◌, ℕ, suc, ◌<◌, ◌≢◌, eqb, Bool
 use Rattle.std.proofs.lemmas.Bool.{eqb-true}
 use Rattle.protocol.specs.Updates.{upd}
 use Rattle.protocol.specs.Members.{Member}
-use Rattle.protocol.specs.Views.{caller_of}
 use Rattle.protocol.specs.Model.{Status, active, manager, waiting, Answer, none, crashed, normal, Replica, View, Site}
-use Rattle.protocol.specs.Model.{Message, answer}
-use Rattle.protocol.specs.Model.{promising, answer_of, next_view, after_call, after_invitation}
+use Rattle.protocol.specs.Model.{Message, answer, promising, answer_of, next_view, after_call, after_invitation}
 use Rattle.protocol.proofs.Updates.{upd_all, upd_same}
 use Rattle.protocol.proofs.Members.{each_last}
 use Rattle.protocol.proofs.Invariant.{AnswerOk, AnswersOk, Invariant, LastIn, MessageOk, ReplicaOk}
@@ -14,9 +12,9 @@ use Rattle.protocol.proofs.Frame.{Still, step_replica}
 
 module _ {E : Type 0} where
   -- what c answers is so once it has promised v
-  answer_of_ok : (R : ℕ → Replica E) (W : ℕ → View E) (c : ℕ) (r : Replica E) → ReplicaOk R W c r → (t : Status) (v : ℕ) (a : ℕ → Answer) → r.promised < v
+  answer_of_ok : {R : ℕ → Replica E} {W : ℕ → View E} {c : ℕ} {r : Replica E} → ReplicaOk R W c r → (t : Status) (v : ℕ) (a : ℕ → Answer) → r.promised < v
       → AnswerOk (promising r t v a) W c v (answer_of c r)
-  answer_of_ok R W c r h t v a up = go r.complete refl
+  answer_of_ok {W} {c} {r} h t v a up = go r.complete refl
     where
       last : LastIn (promising r t v a) v r.current
       last = record { past = omega arith; upto = λ w _ b. (h.held.floors w b).reached }
@@ -32,34 +30,24 @@ module _ {E : Type 0} where
       }
       go false f = last
 
-  next_later : (r : Replica E) (i : ℕ) → r.promised < next_view r i
-  next_later r i = omega arith
-
-  next_own : (r : Replica E) (i : ℕ) → i < 8 → caller_of (next_view r i) ≡ i
-  next_own r i h = omega arith
-
   module _ (n : ℕ) (s : Site E) (inv : Invariant n s) where
     -- i promises v
     module _ (i : ℕ) (t : Status) (v : ℕ) (a : ℕ → Answer) (up : (s.replicas i).promised < v) where
+      abbrev r' : Replica E
+      r' = promising (s.replicas i) t v a
+
       abbrev R : ℕ → Replica E
-      R = upd s.replicas i (promising (s.replicas i) t v a)
+      R = upd s.replicas i r'
 
       own_answer : AnswerOk (R i) s.views i v (answer_of i (s.replicas i))
-      own_answer = subst (λ x. AnswerOk x s.views i v (answer_of i (s.replicas i))) (sym (upd_same s.replicas i (promising (s.replicas i) t v a)))
-          (answer_of_ok s.replicas s.views i (s.replicas i) (inv.replica_ok i) t v a up)
+      own_answer = subst (λ x. AnswerOk x s.views i v (answer_of i (s.replicas i))) (sym (upd_same s.replicas i r')) (answer_of_ok (inv.replica_ok i) t v a up)
 
       promise_ok : (ms : List (Message E)) → t ≢ active → (t ≡ manager → AnswersOk R s.views i v a)
           → (Still n s inv R s.views → (m : Message E) → Member m ms → MessageOk n R s.views m)
           → Invariant n (record s { replicas = R; pool = ms })
       promise_ok ms not_active answers messages =
-          step_replica n s inv i (promising (s.replicas i) t v a) ms
-          (record {
-            promised_up = omega arith;
-            floor_up = λ w. omega arith;
-            floor_fix = λ w h. refl;
-            waits = λ _ _. inl up;
-            manages = λ _. inl up;
-          })
+          step_replica n s inv i r' ms
+          (record { promised_up = omega arith; floor_up = λ w. omega arith; floor_fix = λ w h. refl; waits = λ _ _. inl up; manages = λ _. inl up })
           (λ old.
           let h = old.replica i in
           record {
@@ -78,14 +66,14 @@ module _ {E : Type 0} where
     pub call_ok : (i : ℕ) → i < 8 → Invariant n (after_call s i)
     call_ok i h =
         let r = s.replicas i in
+        let t = after_call s i in
         let v : ℕ = next_view r i in
-        let own : Answer = answer_of i r in
-        let up : r.promised < v = next_later r i in
-        promise_ok i manager v (upd (λ _. none) i own) up s.pool (λ x. cc)
+        let a : ℕ → Answer = upd (λ _. none) i (answer_of i r) in
+        let up : r.promised < v = omega arith in
+        promise_ok i manager v a up s.pool (λ x. cc)
         (λ _. record {
-          own = next_own r i h;
-          each = upd_all (λ d b. AnswerOk (R i manager v (upd (λ _. none) i own) up d) s.views d v b) (λ _. none) i own
-              (own_answer i manager v (upd (λ _. none) i own) up) (λ d _. tt);
+          own = omega arith;
+          each = upd_all (λ d b. AnswerOk (t.replicas d) t.views d v b) (λ _. none) i (answer_of i r) (own_answer i manager v a up) (λ d _. tt);
         })
         (λ old. old.message)
 
@@ -93,5 +81,4 @@ module _ {E : Type 0} where
     invitation_ok a c v up =
         let t = after_invitation s a c v in
         promise_ok c waiting v (λ _. none) up t.pool (λ x. cc) (λ x. absurd (cc))
-        (λ old. each_last (λ m. MessageOk n t.replicas t.views m) s.pool (answer c a v (answer_of c (s.replicas c))) old.message
-        (own_answer c waiting v (λ _. none) up))
+        (λ old. each_last (λ m. MessageOk n t.replicas t.views m) s.pool (answer c a v (answer_of c (s.replicas c))) old.message (own_answer c waiting v (λ _. none) up))

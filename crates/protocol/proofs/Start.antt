@@ -3,8 +3,7 @@ use Rattle.std.proofs.Common.{◌≡◌, ℕ, ◌≤◌, ◌<◌, [], ◌∷◌,
 use Rattle.std.proofs.Math.Decide.{ℕ_discrete, dec_lt}
 use Rattle.protocol.specs.Updates.{pick, upd}
 use Rattle.protocol.specs.Model.{manager, Entry, Replica, View}
-use Rattle.protocol.specs.Model.{opening}
-use Rattle.protocol.specs.Model.{active_replica, absent_replica, made_replica, first_view, unopened_view, made_view, made}
+use Rattle.protocol.specs.Model.{opening, active_replica, absent_replica, made_replica, first_view, unopened_view, made_view, made}
 use Rattle.protocol.proofs.Updates.{pick_all, upd_all, upd_same}
 use Rattle.protocol.proofs.Members.{each_first}
 use Rattle.protocol.proofs.Invariant.{EventOk, Invariant, LookupOk, ReplicaOk, Told, ViewOk}
