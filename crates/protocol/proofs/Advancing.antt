@@ -4,7 +4,7 @@ use Rattle.std.proofs.lemmas.Bool.{cases_lt}
 use Rattle.protocol.specs.Updates.{upd}
 use Rattle.protocol.specs.Model.{active, Entry, Replica, View, appending, entering}
 use Rattle.protocol.proofs.Updates.{upd_all, upd_same}
-use Rattle.protocol.proofs.Invariant.{FloorOk, HeldOk, InLog, LookupOk, ReplicaOk}
+use Rattle.protocol.proofs.Invariant.{FloorOk, HeldOk, EntryOk, LookupOk, ReplicaOk}
 use Rattle.protocol.proofs.Growth.{ReplicaGrows, replica_active}
 
 module _ {E : Type 0} {R : ℕ → Replica E} {W : ℕ → View E} {c : ℕ} {r : Replica E} (h : ReplicaOk R W c r) where
@@ -30,7 +30,7 @@ module _ {E : Type 0} {R : ℕ → Replica E} {W : ℕ → View E} {c : ℕ} {r 
         replica_active r (appending r e acknowledged) r.current (suc (suc r.length)) (omega arith) same (omega (arith, b.at_floor)) act
 
     -- the entry stands in the log
-    pub appending_ok : InLog (W r.current) r.length e → (r.primary ≡ c → (d : ℕ) → acknowledged d ≤ (R d).floor r.current) → ReplicaOk R W c (appending r e acknowledged)
+    pub appending_ok : EntryOk (W r.current) r.length e → (r.primary ≡ c → (d : ℕ) → acknowledged d ≤ (R d).floor r.current) → ReplicaOk R W c (appending r e acknowledged)
     appending_ok there counted = record {
       state = h.state;
       held = held_now r.complete r.current r.primary (suc r.length) (upd r.book r.length e) (omega arith) (λ f. (h.held.its_book f).led) book_now;
@@ -45,7 +45,7 @@ module _ {E : Type 0} {R : ℕ → Replica E} {W : ℕ → View E} {c : ℕ} {r 
             record {
               begins = record {
                 opens = there.opens;
-                within = there.below;
+                within = there.in_log;
                 same = upd_all (λ j y. j < suc r.length → y ≡ (W r.current).log j) r.book r.length e (λ _. sym there.same) (λ j d q. b.begins.same j (omega arith));
               };
               above = omega (arith, fl.above, b.at_floor);

@@ -5,7 +5,7 @@ use Rattle.protocol.specs.Members.{Member}
 use Rattle.protocol.specs.Model.{active, Entry, Replica, entry, acknowledgement, Site, appending, after_entry}
 use Rattle.protocol.proofs.Updates.{upd_same}
 use Rattle.protocol.proofs.Members.{each_last}
-use Rattle.protocol.proofs.Invariant.{InLog, Invariant, MessageOk}
+use Rattle.protocol.proofs.Invariant.{EntryOk, Invariant, MessageOk}
 use Rattle.protocol.proofs.Frame.{step_replica}
 use Rattle.protocol.proofs.Advancing.{appending_grows, appending_ok}
 
@@ -21,8 +21,8 @@ module _ {E : Type 0} (n : ℕ) (s : Site E) (inv : Invariant n s) where
     abbrev site' : Site E
     site' = after_entry s p b v e
 
-    there : InLog (s.views r.current) r.length e
-    there = subst (λ y. InLog (s.views y) r.length e) (sym here) (subst (λ j. InLog (s.views v) j e) place (inv.message_ok (entry p b v k e) mem))
+    there : EntryOk (s.views r.current) r.length e
+    there = subst (λ y. EntryOk (s.views y) r.length e) (sym here) (subst (λ j. EntryOk (s.views v) j e) place (inv.message_ok (entry p b v k e) mem))
 
     floor_is : (site'.replicas b).floor v ≡ suc (suc r.length)
     floor_is = ap (λ y. y.floor v) (upd_same s.replicas b replica') ∙ ap (λ y. upd r.floor r.current (suc (suc r.length)) y) (sym here)

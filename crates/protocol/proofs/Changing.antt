@@ -5,7 +5,7 @@ use Rattle.protocol.specs.Model.{Entry, Replica, View, handed, Site, appending, 
 use Rattle.protocol.specs.Guarantee.{handed_with}
 use Rattle.protocol.proofs.Updates.{upd_all, upd_other, upd_same}
 use Rattle.protocol.proofs.Members.{each_first}
-use Rattle.protocol.proofs.Invariant.{EventOk, InLog, Invariant, LogOk, Opened, ReplicaOk, Source, Stamped, Told, ViewOk}
+use Rattle.protocol.proofs.Invariant.{EventOk, EntryOk, Invariant, LogOk, Opened, ReplicaOk, Source, Stamped, Told, ViewOk}
 use Rattle.protocol.proofs.Growth.{Grows, LogGrows, one_replica, one_view}
 use Rattle.protocol.proofs.Frame.{still}
 use Rattle.protocol.proofs.Active.{leads, whole_log}
@@ -71,11 +71,11 @@ module _ {E : Type 0} (n : ℕ) (s : Site E) (inv : Invariant n s) where
     floor_is : (site'.replicas i).floor v ≡ suc (suc l)
     floor_is = ap (λ y. y.floor v) (upd_same s.replicas i replica') ∙ upd_same r.floor v (suc (suc l))
 
-    there : InLog (site'.views v) V.log_length e
-    there = subst (λ y. InLog y V.log_length e) (sym (upd_same s.views v view')) (record { opens = opens; below = omega arith; same = upd_same V.log V.log_length e })
+    there : EntryOk (site'.views v) V.log_length e
+    there = subst (λ y. EntryOk y V.log_length e) (sym (upd_same s.views v view')) (record { opens = opens; in_log = omega arith; same = upd_same V.log V.log_length e })
 
     source_now : Source site'.views V.log_length e
-    source_now = record { in_log = there; above = omega (arith, ap (λ y. y.opening_length) (upd_same s.views v view'), old_log.fits) }
+    source_now = record { stands = there; above = omega (arith, ap (λ y. y.opening_length) (upd_same s.views v view'), old_log.fits) }
 
     view_now : ViewOk n site'.replicas site'.views v V → ViewOk n site'.replicas site'.views v view'
     view_now k = record {
@@ -130,7 +130,7 @@ module _ {E : Type 0} (n : ℕ) (s : Site E) (inv : Invariant n s) where
         record {
           replica_ok = upd_all (λ d y. ReplicaOk site'.replicas site'.views d y) s.replicas i replica'
               (appending_ok (old.replica i) e acknowledged primary.is_active
-              (subst (λ j. InLog (site'.views v) j e) log_is there)
+              (subst (λ j. EntryOk (site'.views v) j e) log_is there)
               (λ b. upd_all (λ d y. y ≤ (site'.replicas d).floor v) r.acknowledged i (suc (suc l)) (omega (arith, floor_is))
               (λ d _. (old.replica i).counted primary.is_active b d)))
               (λ d _. old.replica d);

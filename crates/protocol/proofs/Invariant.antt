@@ -47,9 +47,9 @@ module _ {E : Type 0} where
     pub same : (j : ℕ) → j < l → f j ≡ V.log j
 
   -- the entry e stands at place j of the log
-  pub record InLog (V : View E) (j : ℕ) (e : Entry E) : Type 0 where
+  pub record EntryOk (V : View E) (j : ℕ) (e : Entry E) : Type 0 where
     pub opens : Opened V
-    pub below : j < V.log_length
+    pub in_log : j < V.log_length
     pub same : V.log j ≡ e
 
   -- the book (l, f) has the first k entries of the log of w, and past the opening book of w only entries of w and later views
@@ -130,7 +130,7 @@ module _ {E : Type 0} where
 
   -- the entry e at place j was appended in its own view
   pub record Source (W : ℕ → View E) (j : ℕ) (e : Entry E) : Type 0 where
-    pub in_log : InLog (W e.view) j e
+    pub stands : EntryOk (W e.view) j e
     pub above : (W e.view).opening_length ≤ j
 
   pub record LogOk (W : ℕ → View E) (w opening_length : ℕ) (opening_book : ℕ → Entry E) (log_length : ℕ) (log : ℕ → Entry E) : Type 0 where
@@ -173,7 +173,7 @@ module _ {E : Type 0} where
   MessageOk n R W (invitation a b v) = Unit {0}
   MessageOk n R W (answer c i v a) = AnswerOk (R c) W c v a
   MessageOk n R W (formation i c v) = FormationOk n R W c v
-  MessageOk n R W (entry p b v k e) = InLog (W v) k e
+  MessageOk n R W (entry p b v k e) = EntryOk (W v) k e
   MessageOk n R W (acknowledgement b p v l) = l < (R b).floor v
 
   pub record OpeningOk (V : View E) (l : ℕ) (f : ℕ → Entry E) : Type 0 where

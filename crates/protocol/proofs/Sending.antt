@@ -11,7 +11,7 @@ module _ {E : Type 0} (n : ℕ) (s : Site E) (inv : Invariant n s) where
   pass_ok i b k p h =
       let a = (active_book n s inv i p.is_active).begins in
       step_send n s inv (entry i b (s.replicas i).current k ((s.replicas i).book k))
-      (record { opens = a.opens; below = omega (arith, a.within); same = sym (a.same k h) })
+      (record { opens = a.opens; in_log = omega (arith, a.within); same = sym (a.same k h) })
 
   pub invite_ok : (i b : ℕ) → Invariant n (after_invite s i b)
   invite_ok i b = step_send n s inv (invitation i b (s.replicas i).promised) tt

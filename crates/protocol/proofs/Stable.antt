@@ -4,7 +4,7 @@ use Rattle.std.proofs.lemmas.Bool.{cases_lt}
 use Rattle.protocol.specs.Views.{caller_of}
 use Rattle.protocol.specs.Model.{manager, Answer, none, crashed, normal, Entry, Replica, View}
 use Rattle.protocol.specs.Model.{Message, invitation, answer, formation, entry, acknowledgement, Event, handed, opening, looked_up, confirmed, lost}
-use Rattle.protocol.proofs.Invariant.{AnswerOk, Begins, EventOk, FloorOk, FormedOk, InLog, LastIn, MessageOk, Opened, MajorityHad, Ready, ReplicaOk, Safe, SafeTo, Source, ViewOk}
+use Rattle.protocol.proofs.Invariant.{AnswerOk, Begins, EventOk, FloorOk, FormedOk, EntryOk, LastIn, MessageOk, Opened, MajorityHad, Ready, ReplicaOk, Safe, SafeTo, Source, ViewOk}
 use Rattle.protocol.proofs.Growth.{Grows, SameBook}
 
 module _ {E : Type 0} {R R' : ℕ → Replica E} {W W' : ℕ → View E} (grows : Grows R R' W W') where
@@ -20,10 +20,10 @@ module _ {E : Type 0} {R R' : ℕ → Replica E} {W W' : ℕ → View E} (grows 
         same = λ j a. h.same j a ∙ sym (up.log_fix j (omega (arith, h.within)));
       }
 
-  in_log_stable : {w j : ℕ} {e : Entry E} → InLog (W w) j e → InLog (W' w) j e
-  in_log_stable {w} {j} h =
+  entry_stable : {w j : ℕ} {e : Entry E} → EntryOk (W w) j e → EntryOk (W' w) j e
+  entry_stable {w} {j} h =
       let up = (grows.view w).log h.opens in
-      record { opens = opens_stable h.opens; below = omega (arith, h.below, up.log_length_up); same = up.log_fix j h.below ∙ h.same }
+      record { opens = opens_stable h.opens; in_log = omega (arith, h.in_log, up.log_length_up); same = up.log_fix j h.in_log ∙ h.same }
 
   had_stable : {n w k : ℕ} → MajorityHad n R w k → MajorityHad n R' w k
   had_stable {w} h = record { who = h.who; most = h.most; had = λ c a b. omega (arith, h.had c a b, (grows.replica c).floor_up w) }
@@ -100,8 +100,8 @@ module _ {E : Type 0} {R R' : ℕ → Replica E} {W W' : ℕ → View E} (grows 
 
   pub source_stable : (j : ℕ) (e : Entry E) → Source W j e → Source W' j e
   source_stable j e h = record {
-    in_log = in_log_stable h.in_log;
-    above = omega (arith, h.above, ((grows.view e.view).log h.in_log.opens).opening_length_fix);
+    stands = entry_stable h.stands;
+    above = omega (arith, h.above, ((grows.view e.view).log h.stands.opens).opening_length_fix);
   }
 
   formed_stable : (w opened_by formed_for c : ℕ) → FormedOk w opened_by formed_for (R c).status (R c).promised
@@ -136,7 +136,7 @@ module _ {E : Type 0} {R R' : ℕ → Replica E} {W W' : ℕ → View E} (grows 
     past = omega (arith, h.past, (grows.replica c).promised_up);
     ready = ready_stable n c v h.past h.ready;
   }
-  message_stable n (entry p b v k e) h = in_log_stable h
+  message_stable n (entry p b v k e) h = entry_stable h
   message_stable n (acknowledgement b p v l) h = omega (arith, (grows.replica b).floor_up v)
 
   pub event_stable : (n : ℕ) (x : Event E) → EventOk n R W x → EventOk n R' W' x

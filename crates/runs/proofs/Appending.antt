@@ -7,7 +7,8 @@ use Rattle.entries.specs.declared.book.Entry.{Entry}
 use Rattle.controller.specs.declared.records.Controller.{Controller}
 use Rattle.controller.specs.Books.{appended, item}
 use Rattle.controller.specs.Records.{is_up}
-use Rattle.protocol.specs.Updates.{upd, upd_all}
+use Rattle.protocol.specs.Updates.{upd}
+use Rattle.protocol.proofs.Updates.{upd_all}
 use Rattle.protocol.specs.Model as model
 use Rattle.protocol.specs.Model.{Replica, appending}
 use Rattle.runs.proofs.Bond.{ReplicaR, Small, StatusR, the_entry}

@@ -12,7 +12,7 @@ use Rattle.controller.specs.ViewChanges.{called, called_row, called_view, put_ta
 use Rattle.site.specs.States.{Done, State, book, row}
 use Rattle.site.specs.Steps.{after_call, refuse, site_asks}
 use Rattle.protocol.specs.Updates.{upd}
-use Rattle.protocol.specs.Views.{view_number_parts}
+use Rattle.protocol.proofs.Views.{view_number_parts}
 use Rattle.protocol.specs.Model as model
 use Rattle.protocol.specs.Model.{Run, Site, answer_of, call, manager, next_view, none, promising, then}
 use Rattle.runs.specs.declared.steps.Step.TheVariants.{Call}
