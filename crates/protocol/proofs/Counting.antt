@@ -13,7 +13,8 @@ module _ {E : Type 0} (n : ℕ) (s : Site E) (inv : Invariant n s) where
   answer_ok c i v a mem here =
       let r = s.replicas i in
       let t = after_answer s c i a in
-      step_replica n s inv i (with_answers r (upd r.answers c a)) s.pool (replica_stays r r.status r.acknowledged (upd r.answers c a) (λ x. x) (λ x. x))
+      let r' = with_answers r (upd r.answers c a) in
+      step_replica n s inv i r' s.pool (replica_stays r r' (λ x. x) (λ x. x))
       (λ old.
       let h = old.replica i in
       record {
@@ -32,8 +33,8 @@ module _ {E : Type 0} (n : ℕ) (s : Site E) (inv : Invariant n s) where
   acknowledgement_ok b p v l mem here =
       let r = s.replicas p in
       let t = after_acknowledgement s b p l in
-      let acknowledged : ℕ → ℕ = upd r.acknowledged b (max (r.acknowledged b) (suc l)) in
-      step_replica n s inv p (with_acknowledged r acknowledged) s.pool (replica_stays r r.status acknowledged r.answers (λ x. x) (λ x. x))
+      let r' = with_acknowledged r (upd r.acknowledged b (max (r.acknowledged b) (suc l))) in
+      step_replica n s inv p r' s.pool (replica_stays r r' (λ x. x) (λ x. x))
       (λ old.
       let h = old.replica p in
       record {

@@ -7,7 +7,7 @@ use Rattle.protocol.specs.Model.{manager, normal, Replica, View, formation, Site
 use Rattle.protocol.proofs.Updates.{upd_all, upd_same}
 use Rattle.protocol.proofs.Members.{each_last}
 use Rattle.protocol.proofs.Invariant.{AnswerOk, Idle, Invariant, MessageOk, ReplicaOk, Told, ViewOk}
-use Rattle.protocol.proofs.Growth.{Grows, ReplicaGrows, log_same, one_replica, one_view, replica_stays}
+use Rattle.protocol.proofs.Growth.{Grows, log_same, one_replica, one_view, replica_stays}
 use Rattle.protocol.proofs.Stable.{ready_stable}
 use Rattle.protocol.proofs.Frame.{still}
 use Rattle.protocol.proofs.Choosing.{chosen_safe}
@@ -40,12 +40,9 @@ module _ {E : Type 0} (n : ℕ) (s : Site E) (inv : Invariant n s) where
         go (inl h) = absurd ((inv.view_ok v).formed.over h (ap (λ y. (s.replicas y).promised) own) (ap (λ y. (s.replicas y).status) own ∙ manages))
         go (inr h) = omega arith
 
-    replica_grows : ReplicaGrows (s.replicas i) replica'
-    replica_grows = replica_stays (s.replicas i) replica'.status replica'.acknowledged replica'.answers (λ _. idle_now) (λ m. absurd (cc))
-
     site_grows : Grows s.replicas site'.replicas s.views site'.views
     site_grows = record {
-      replica = one_replica s.replicas i replica' replica_grows;
+      replica = one_replica s.replicas i replica' (replica_stays (s.replicas i) replica' (λ _. idle_now) (λ m. absurd (cc)));
       view = one_view s.views v view'
           (record { opened_by_fix = λ d h. h; formed_for_fix = λ d h. absurd (omega (arith, unformed)); log = λ h. log_same v (s.views v) (suc c) });
     }

@@ -1,7 +1,7 @@
 -- How a step may change replicas and views: promises and logs only grow, and what a promise left behind stays.
 use Rattle.std.proofs.Common.{◌≡◌, ℕ, suc, ◌≤◌, ◌<◌, true, ◌⊎◌, refl, subst, inr, arith}
 use Rattle.protocol.specs.Updates.{upd}
-use Rattle.protocol.specs.Model.{Status, active, manager, Answer, Replica, View}
+use Rattle.protocol.specs.Model.{active, manager, Replica, View}
 use Rattle.protocol.proofs.Updates.{upd_all}
 use Rattle.protocol.proofs.Invariant.{Idle, Opened}
 
@@ -41,10 +41,10 @@ module _ {E : Type 0} where
 
   -- A replica that grows
 
-  -- with its promise and its book as they were
-  pub replica_stays : (r : Replica E) (t : Status) (acknowledged : ℕ → ℕ) (answers : ℕ → Answer) → (Idle t → Idle r.status) → (t ≡ manager → r.status ≡ manager)
-      → ReplicaGrows r (record r { status = t; acknowledged = acknowledged; answers = answers })
-  replica_stays r t acknowledged answers idle manages = record {
+  -- with its views and its book as they were
+  pub replica_stays : (r r' : Replica E) → (Idle r'.status → Idle r.status) → (r'.status ≡ manager → r.status ≡ manager)
+      → ReplicaGrows r (record r' { current = r.current; promised = r.promised; complete = r.complete; length = r.length; book = r.book; floor = r.floor })
+  replica_stays r r' idle manages = record {
     promised_up = omega arith;
     floor_up = λ w. omega arith;
     floor_fix = λ w h. refl;
@@ -53,7 +53,7 @@ module _ {E : Type 0} where
   }
 
   pub replica_same : (r : Replica E) → ReplicaGrows r r
-  replica_same r = replica_stays r r.status r.acknowledged r.answers (λ i. i) (λ m. m)
+  replica_same r = replica_stays r r (λ i. i) (λ m. m)
 
   -- active in the view v that it promised, at a floor from its old one on
   pub replica_active : (r r' : Replica E) (v fl : ℕ) → r.promised ≤ v → v ≡ r'.promised → r.floor v ≤ fl → r'.status ≡ active
