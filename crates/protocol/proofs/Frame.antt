@@ -10,8 +10,9 @@ use Rattle.protocol.proofs.Growth.{Grows, ReplicaGrows, one_replica, view_same}
 use Rattle.protocol.proofs.Stable.{event_stable, message_stable, replica_stable, view_stable}
 
 module _ {E : Type 0} (n : ℕ) (s : Site E) (inv : Invariant n s) where
-  -- what was so of the site s is so of it among the replicas R and the views W
+  -- what was so of the site s is so of it among the replicas R and the views W that it grows into
   pub record Still (R : ℕ → Replica E) (W : ℕ → View E) : Type 0 where
+    pub grows : Grows s.replicas R s.views W
     pub replica : (c : ℕ) → ReplicaOk R W c (s.replicas c)
     pub view : (w : ℕ) → ViewOk n R W w (s.views w)
     pub message : (m : Message E) → Member m s.pool → MessageOk n R W m
@@ -19,6 +20,7 @@ module _ {E : Type 0} (n : ℕ) (s : Site E) (inv : Invariant n s) where
 
   pub still : {R : ℕ → Replica E} {W : ℕ → View E} → Grows s.replicas R s.views W → Still R W
   still grows = record {
+    grows = grows;
     replica = λ c. replica_stable grows c (s.replicas c) (inv.replica_ok c);
     view = λ w. view_stable grows w (s.views w) (inv.view_ok w);
     message = λ m h. message_stable grows n m (inv.message_ok m h);
