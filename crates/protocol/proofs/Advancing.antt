@@ -7,7 +7,7 @@ use Rattle.protocol.proofs.Updates.{upd_all, upd_same}
 use Rattle.protocol.proofs.Invariant.{FloorOk, HeldOk, EntryOk, LookupOk, ReplicaOk}
 use Rattle.protocol.proofs.Growth.{ReplicaGrows, replica_active}
 
-module _ {E : Type 0} {R : ℕ → Replica E} {W : ℕ → View E} {c : ℕ} {r : Replica E} (h : ReplicaOk R W c r) where
+module _ {E : Type 0} {n : ℕ} {R : ℕ → Replica E} {W : ℕ → View E} {c : ℕ} {r : Replica E} (h : ReplicaOk n R W c r) where
   -- what it holds once it is active in v under p with the book (l, f)
   held_now : (complete : Bool) (v p l : ℕ) (f : ℕ → Entry E) → r.current ≤ v → (complete ≡ true → (W v).opened_by ≡ suc p) → LookupOk (W v) l f
       → HeldOk W v complete p l f (upd r.floor v (suc l))
@@ -30,7 +30,7 @@ module _ {E : Type 0} {R : ℕ → Replica E} {W : ℕ → View E} {c : ℕ} {r 
         replica_active r (appending r e acknowledged) r.current (suc (suc r.length)) (omega arith) same (omega (arith, b.at_floor)) act
 
     -- the entry stands in the log
-    pub appending_ok : EntryOk (W r.current) r.length e → (r.primary ≡ c → (d : ℕ) → acknowledged d ≤ (R d).floor r.current) → ReplicaOk R W c (appending r e acknowledged)
+    pub appending_ok : EntryOk (W r.current) r.length e → (r.primary ≡ c → (d : ℕ) → acknowledged d ≤ (R d).floor r.current) → ReplicaOk n R W c (appending r e acknowledged)
     appending_ok there counted = record {
       state = h.state;
       held = held_now r.complete r.current r.primary (suc r.length) (upd r.book r.length e) (omega arith) (λ f. (h.held.its_book f).led) book_now;
@@ -65,7 +65,7 @@ module _ {E : Type 0} {R : ℕ → Replica E} {W : ℕ → View E} {c : ℕ} {r 
     entering_grows later here = replica_active r (entering r v p l f acknowledged) v (suc l) (omega arith) refl (omega (arith, no_floor v later)) refl
 
     pub entering_ok : r.current ≤ v → (W v).opened_by ≡ suc p → LookupOk (W v) l f → (p ≡ c → (d : ℕ) → acknowledged d ≤ (R d).floor v)
-        → ReplicaOk R W c (entering r v p l f acknowledged)
+        → ReplicaOk n R W c (entering r v p l f acknowledged)
     entering_ok later led b counted = record {
       state = record { ordered = omega arith; idle = λ a. absurd a; active_complete = λ _. refl; active_current = λ _. refl };
       held = held_now true v p l f later (λ _. led) b;

@@ -128,7 +128,7 @@ module _ {E : Type 0} (n : ℕ) (s : Site E) (inv : Invariant n s) where
     change_ok =
         let old = still n s inv site_grows in
         record {
-          replica_ok = upd_all (λ d y. ReplicaOk site'.replicas site'.views d y) s.replicas i replica'
+          replica_ok = upd_all (λ d y. ReplicaOk n site'.replicas site'.views d y) s.replicas i replica'
               (appending_ok (old.replica i) e acknowledged primary.is_active
               (subst (λ j. EntryOk (site'.views v) j e) log_is there)
               (λ b. upd_all (λ d y. y ≤ (site'.replicas d).floor v) r.acknowledged i (suc (suc l)) (omega (arith, floor_is))

@@ -59,7 +59,7 @@ module _ {E : Type 0} (n : ℕ) (s : Site E) (inv : Invariant n s) where
         let h = old.replica i in
         let k = old.view v in
         record {
-          replica_ok = upd_all (λ d y. ReplicaOk site'.replicas site'.views d y) s.replicas i replica'
+          replica_ok = upd_all (λ d y. ReplicaOk n site'.replicas site'.views d y) s.replicas i replica'
               (record {
                 state = record { ordered = h.state.ordered; idle = λ a f. h.state.idle idle_now f; active_complete = λ a. absurd (cc); active_current = λ a. absurd (cc) };
                 held = h.held;

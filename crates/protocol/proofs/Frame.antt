@@ -13,7 +13,7 @@ module _ {E : Type 0} (n : ℕ) (s : Site E) (inv : Invariant n s) where
   -- what was so of the site s is so of it among the replicas R and the views W that it grows into
   pub record Still (R : ℕ → Replica E) (W : ℕ → View E) : Type 0 where
     pub grows : Grows s.replicas R s.views W
-    pub replica : (c : ℕ) → ReplicaOk R W c (s.replicas c)
+    pub replica : (c : ℕ) → ReplicaOk n R W c (s.replicas c)
     pub view : (w : ℕ) → ViewOk n R W w (s.views w)
     pub message : (m : Message E) → Member m s.pool → MessageOk n R W m
     pub event : (x : Event E) → Member x s.history → EventOk n R W x
@@ -50,12 +50,12 @@ module _ {E : Type 0} (n : ℕ) (s : Site E) (inv : Invariant n s) where
     abbrev R : ℕ → Replica E
     R = upd s.replicas i r
 
-    pub step_replica : (Still R s.views → ReplicaOk R s.views i r) → (Still R s.views → (m : Message E) → Member m ms → MessageOk n R s.views m)
+    pub step_replica : (Still R s.views → ReplicaOk n R s.views i r) → (Still R s.views → (m : Message E) → Member m ms → MessageOk n R s.views m)
         → Invariant n (record s { replicas = R; pool = ms })
     step_replica here messages =
         let old : Still R s.views = still (record { replica = one_replica s.replicas i r grows; view = λ w. view_same w (s.views w) }) in
         record {
-          replica_ok = upd_all (λ c x. ReplicaOk R s.views c x) s.replicas i r (here old) (λ c _. old.replica c);
+          replica_ok = upd_all (λ c x. ReplicaOk n R s.views c x) s.replicas i r (here old) (λ c _. old.replica c);
           view_ok = old.view;
           told_ok = inv.told_ok;
           message_ok = messages old;

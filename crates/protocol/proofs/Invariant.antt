@@ -121,7 +121,7 @@ module _ {E : Type 0} where
     pub its_book : complete ≡ true → BookOk (W current) primary (floor current) length book
     pub floors : (w : ℕ) → 1 ≤ floor w → FloorOk (W w) w (floor w) current
 
-  pub record ReplicaOk (R : ℕ → Replica E) (W : ℕ → View E) (c : ℕ) (r : Replica E) : Type 0 where
+  pub record ReplicaOk (n : ℕ) (R : ℕ → Replica E) (W : ℕ → View E) (c : ℕ) (r : Replica E) : Type 0 where
     pub state : StateOk r.status r.current r.promised r.complete
     pub held : HeldOk W r.current r.complete r.primary r.length r.book r.floor
     pub answers : r.status ≡ manager → AnswersOk R W c r.promised r.answers
@@ -203,7 +203,7 @@ module _ {E : Type 0} where
   EventOk n R W (lost w z k) = LostOk n R W w z k
 
   pub record Invariant (n : ℕ) (s : Site E) : Type 0 where
-    pub replica_ok : (c : ℕ) → ReplicaOk s.replicas s.views c (s.replicas c)
+    pub replica_ok : (c : ℕ) → ReplicaOk n s.replicas s.views c (s.replicas c)
     pub view_ok : (w : ℕ) → ViewOk n s.replicas s.views w (s.views w)
     pub told_ok : (w : ℕ) → Told w (s.views w) s.history
     pub message_ok : (m : Message E) → Member m s.pool → MessageOk n s.replicas s.views m

@@ -109,7 +109,7 @@ module _ {E : Type 0} (n : ℕ) (s : Site E) (inv : Invariant n s) where
     open_ok =
         let old = still n s inv site_grows in
         record {
-          replica_ok = upd_all (λ d y. ReplicaOk site'.replicas site'.views d y) s.replicas c replica'
+          replica_ok = upd_all (λ d y. ReplicaOk n site'.replicas site'.views d y) s.replicas c replica'
               (entering_ok (old.replica c) v c l f acknowledged (omega (arith, later))
               (ap (λ y. y.opened_by) view_is) book_now
               (λ _. upd_all (λ d y. y ≤ (site'.replicas d).floor v) (λ _. 0) c (suc l) (omega (arith, floor_is)) (λ d _. omega arith)))

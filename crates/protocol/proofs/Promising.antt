@@ -12,7 +12,7 @@ use Rattle.protocol.proofs.Frame.{Still, step_replica}
 
 module _ {E : Type 0} where
   -- what c answers is so once it has promised v
-  answer_of_ok : {R : ℕ → Replica E} {W : ℕ → View E} {c : ℕ} {r : Replica E} → ReplicaOk R W c r → (t : Status) (v : ℕ) (a : ℕ → Answer) → r.promised < v
+  answer_of_ok : {n : ℕ} {R : ℕ → Replica E} {W : ℕ → View E} {c : ℕ} {r : Replica E} → ReplicaOk n R W c r → (t : Status) (v : ℕ) (a : ℕ → Answer) → r.promised < v
       → AnswerOk (promising r t v a) W c v (answer_of c r)
   answer_of_ok {W} {c} {r} h t v a up = go r.complete refl
     where

@@ -83,7 +83,7 @@ module _ {E : Type 0} {R R' : ℕ → Replica E} {W W' : ℕ → View E} (grows 
       let up = (grows.view w).log h.opens in
       record { reached = h.reached; opens = opens_stable h.opens; above = omega (arith, h.above, up.opening_length_fix); within = omega (arith, h.within, up.log_length_up) }
 
-  pub replica_stable : (c : ℕ) (r : Replica E) → ReplicaOk R W c r → ReplicaOk R' W' c r
+  pub replica_stable : {n : ℕ} (c : ℕ) (r : Replica E) → ReplicaOk n R W c r → ReplicaOk n R' W' c r
   replica_stable c r h = record {
     state = h.state;
     held = record {

@@ -26,7 +26,7 @@ module _ {E : Type 0} (n : ℕ) (blank : ℕ → Entry E) (some : 0 < n) where
   no_manager : (c : ℕ) → (R c).status ≢ manager
   no_manager c = pick_all (λ r. r.status ≢ manager) (dec_lt c n) (active_replica blank c) (absent_replica blank) (λ _ e. cc) (λ _ e. cc)
 
-  absent_ok : (c : ℕ) → ReplicaOk R W c (absent_replica blank)
+  absent_ok : (c : ℕ) → ReplicaOk n R W c (absent_replica blank)
   absent_ok c = record {
     state = record { ordered = omega arith; idle = λ a. absurd a; active_complete = λ a. absurd (cc); active_current = λ a. refl };
     held = record { its_book = λ f. absurd (cc); floors = λ w k. absurd (omega arith) };
@@ -38,7 +38,7 @@ module _ {E : Type 0} (n : ℕ) (blank : ℕ → Entry E) (some : 0 < n) where
   empty_book = subst (λ y. LookupOk y 0 blank) (sym view_is)
       (record { begins = record { opens = omega arith; within = omega arith; same = λ j k. refl }; above = omega arith })
 
-  active_ok : (c : ℕ) → ReplicaOk R W c (active_replica blank c)
+  active_ok : (c : ℕ) → ReplicaOk n R W c (active_replica blank c)
   active_ok c = entering_ok (absent_ok c) 0 0 0 blank (pick (ℕ_discrete c 0) (upd (λ _. 0) 0 1) (λ _. 0))
       (omega arith) (ap (λ y. y.opened_by) view_is) empty_book
       (λ _ d. pick_all (λ a. a d ≤ (R d).floor 0) (ℕ_discrete c 0) (upd (λ _. 0) 0 1) (λ _. 0)
@@ -75,7 +75,7 @@ module _ {E : Type 0} (n : ℕ) (blank : ℕ → Entry E) (some : 0 < n) where
 
   pub invariant_at_start : Invariant n (made n blank)
   invariant_at_start = record {
-    replica_ok = λ c. pick_all (λ r. ReplicaOk R W c r) (dec_lt c n) (active_replica blank c) (absent_replica blank) (λ _. active_ok c) (λ _. absent_ok c);
+    replica_ok = λ c. pick_all (λ r. ReplicaOk n R W c r) (dec_lt c n) (active_replica blank c) (absent_replica blank) (λ _. active_ok c) (λ _. absent_ok c);
     view_ok = upd_all (λ w V. ViewOk n R W w V) (λ _. unopened_view blank) 0 (first_view blank) first_ok (λ w _. unopened_ok w);
     told_ok = upd_all (λ w V. Told w V (opening 0 0 blank ∷ [])) (λ _. unopened_view blank) 0 (first_view blank) told_first told_unopened;
     message_ok = λ m h. absurd h;
