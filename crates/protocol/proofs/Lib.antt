@@ -24,6 +24,5 @@ pub mod Start
 pub mod Runs
 pub mod Survival
 pub mod OneList
-pub mod HandedOnce
-pub mod AtMostOnce
+pub mod Once
 pub mod Theorem
