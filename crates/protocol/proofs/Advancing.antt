@@ -4,7 +4,7 @@ use Rattle.std.proofs.lemmas.Bool.{cases_lt}
 use Rattle.protocol.specs.Updates.{upd}
 use Rattle.protocol.specs.Model.{active, Entry, Replica, View, appending, entering}
 use Rattle.protocol.proofs.Updates.{upd_all, upd_same}
-use Rattle.protocol.proofs.Invariant.{FloorOk, HeldOk, EntryOk, LookupOk, ReplicaOk}
+use Rattle.protocol.proofs.Invariant.{EntryOk, FloorOk, HeldOk, LookupOk, ReplicaOk}
 use Rattle.protocol.proofs.Growth.{ReplicaGrows, replica_active}
 
 module _ {E : Type 0} {n : ℕ} {R : ℕ → Replica E} {W : ℕ → View E} {c : ℕ} {r : Replica E} (h : ReplicaOk n R W c r) where

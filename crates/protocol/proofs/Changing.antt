@@ -5,7 +5,7 @@ use Rattle.protocol.specs.Model.{Entry, Replica, View, handed, Site, appending, 
 use Rattle.protocol.specs.Guarantee.{handed_with}
 use Rattle.protocol.proofs.Updates.{upd_all, upd_other, upd_same}
 use Rattle.protocol.proofs.Members.{each_first}
-use Rattle.protocol.proofs.Invariant.{EventOk, EntryOk, Invariant, LogOk, Opened, ReplicaOk, Source, Stamped, Told, ViewOk}
+use Rattle.protocol.proofs.Invariant.{EntryOk, EventOk, Invariant, LogOk, Opened, ReplicaOk, Source, Stamped, Told, ViewOk}
 use Rattle.protocol.proofs.Growth.{Grows, LogGrows, one_replica, one_view}
 use Rattle.protocol.proofs.Frame.{still}
 use Rattle.protocol.proofs.Active.{leads, whole_log}

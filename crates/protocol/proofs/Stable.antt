@@ -4,7 +4,7 @@ use Rattle.std.proofs.lemmas.Bool.{cases_lt}
 use Rattle.protocol.specs.Views.{caller_of}
 use Rattle.protocol.specs.Model.{manager, Answer, none, crashed, normal, Entry, Replica, View}
 use Rattle.protocol.specs.Model.{Message, invitation, answer, formation, entry, acknowledgement, Event, handed, opening, looked_up, confirmed, lost}
-use Rattle.protocol.proofs.Invariant.{AnswerOk, Begins, EventOk, FloorOk, FormedOk, EntryOk, LastIn, MessageOk, Opened, MajorityHad, Ready, ReplicaOk, Safe, SafeTo, Source, ViewOk}
+use Rattle.protocol.proofs.Invariant.{AnswerOk, Begins, EntryOk, EventOk, FloorOk, FormedOk, LastIn, MajorityHad, MessageOk, Opened, Ready, ReplicaOk, Safe, SafeTo, Source, ViewOk}
 use Rattle.protocol.proofs.Growth.{Grows, SameBook}
 
 module _ {E : Type 0} {R R' : ℕ → Replica E} {W W' : ℕ → View E} (grows : Grows R R' W W') where

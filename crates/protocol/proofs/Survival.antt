@@ -4,7 +4,7 @@ use Rattle.std.proofs.lemmas.Bool.{cases_lt}
 use Rattle.protocol.specs.Model.{Entry, Replica, View, Site}
 use Rattle.protocol.specs.Guarantee.{Keeps}
 use Rattle.protocol.proofs.Majorities.{majorities_meet}
-use Rattle.protocol.proofs.Invariant.{Carries, ConfirmedOk, Invariant, LookupOk, LostOk, Opened, OpeningOk, MajorityHad, Safe, SafeTo}
+use Rattle.protocol.proofs.Invariant.{Carries, ConfirmedOk, Invariant, LookupOk, LostOk, MajorityHad, Opened, OpeningOk, Safe, SafeTo}
 
 module _ {E : Type 0} (n : ℕ) (s : Site E) (inv : Invariant n s) where
   abbrev R : ℕ → Replica E
