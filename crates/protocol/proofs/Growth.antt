@@ -1,13 +1,9 @@
--- How a step may change a site: promises and logs only grow, and what a promise left behind stays.
-use mathlib.Core.Path.{◌≡◌, refl}
-use mathlib.Core.Bool.{true}
-use mathlib.Core.List.{List}
-use mathlib.Core.Logic.{◌⊎◌, inl, inr, ◌≢◌}
-use Prim.Native.Nat.{ℕ, suc, ◌≤◌, ◌<◌}
-use native.Mathlib.Omega.{arith}
-use Rattle.protocol.specs.Updates.{upd, upd_all}
-use Rattle.protocol.specs.Views.{caller_of}
-use Rattle.protocol.specs.Model.{manager, Replica, View, Message, Event, Site, Opened, Idle}
+-- How a step may change replicas and views: promises and logs only grow, and what a promise left behind stays.
+use Rattle.std.proofs.Common.{◌≡◌, ℕ, suc, ◌≤◌, ◌<◌, true, ◌⊎◌, refl, subst, inr, arith}
+use Rattle.protocol.specs.Updates.{upd}
+use Rattle.protocol.specs.Model.{active, manager, Replica, View}
+use Rattle.protocol.proofs.Updates.{upd_all}
+use Rattle.protocol.proofs.Invariant.{Idle, Opened}
 
 module _ {E : Type 0} where
   pub record SameBook (r r' : Replica E) : Type 0 where
@@ -22,66 +18,73 @@ module _ {E : Type 0} where
     pub promised_up : r.promised ≤ r'.promised
     pub floor_up : (w : ℕ) → r.floor w ≤ r'.floor w
     pub floor_fix : (w : ℕ) → w < r.promised → r'.floor w ≡ r.floor w
-    pub still : Idle r'.status → r'.complete ≡ true → (r.promised < r'.promised) ⊎ SameBook r r'
+    -- it waits for a later view, or with the same book
+    pub waits : Idle r'.status → r'.complete ≡ true → (r.promised < r'.promised) ⊎ SameBook r r'
+    pub manages : r'.status ≡ manager → (r.promised < r'.promised) ⊎ (r.status ≡ manager)
 
-  pub record ViewGrows (V V' : View E) : Type 0 where
+  -- the log of an opened view w goes on with entries of its own
+  pub record LogGrows (w : ℕ) (V V' : View E) : Type 0 where
+    pub opening_length_fix : V'.opening_length ≡ V.opening_length
+    pub opening_book_fix : V'.opening_book ≡ V.opening_book
+    pub log_length_up : V.log_length ≤ V'.log_length
+    pub log_fix : (j : ℕ) → j < V.log_length → V'.log j ≡ V.log j
+    pub log_new : (j : ℕ) → V.log_length ≤ j → j < V'.log_length → (V'.log j).view ≡ w
+
+  pub record ViewGrows (w : ℕ) (V V' : View E) : Type 0 where
     pub opened_by_fix : (c : ℕ) → V.opened_by ≡ suc c → V'.opened_by ≡ suc c
-    pub opening_length_fix : Opened V → V'.opening_length ≡ V.opening_length
-    pub opening_book_fix : Opened V → V'.opening_book ≡ V.opening_book
-    pub log_length_up : Opened V → V.log_length ≤ V'.log_length
-    pub log_fix : Opened V → (j : ℕ) → j < V.log_length → V'.log j ≡ V.log j
     pub formed_for_fix : (c : ℕ) → V.formed_for ≡ suc c → V'.formed_for ≡ suc c
+    pub log : Opened V → LogGrows w V V'
 
-  pub record Grows (s s' : Site E) : Type 0 where
-    pub replicas_grow : (c : ℕ) → ReplicaGrows (s.replicas c) (s'.replicas c)
-    pub views_grow : (w : ℕ) → ViewGrows (s.views w) (s'.views w)
-    pub newly_formed : (w : ℕ) → (s.views w).formed_for ≡ 0 → ((s'.views w).formed_for ≡ 0) ⊎ ((s'.replicas (caller_of w)).status ≢ manager)
+  pub record Grows (R R' : ℕ → Replica E) (W W' : ℕ → View E) : Type 0 where
+    pub replica : (c : ℕ) → ReplicaGrows (R c) (R' c)
+    pub view : (w : ℕ) → ViewGrows w (W w) (W' w)
 
-  pub replica_same : (r : Replica E) → ReplicaGrows r r
-  replica_same r = record {
+  -- A replica that grows
+
+  -- with its views and its book as they were
+  pub replica_stays : (r r' : Replica E) → (Idle r'.status → Idle r.status) → (r'.status ≡ manager → r.status ≡ manager)
+      → ReplicaGrows r (record r' { current = r.current; promised = r.promised; complete = r.complete; length = r.length; book = r.book; floor = r.floor })
+  replica_stays r r' idle manages = record {
     promised_up = omega arith;
     floor_up = λ w. omega arith;
     floor_fix = λ w h. refl;
-    still = λ i f. inr (record { idle = i; complete = f; promised = refl; current = refl; length = refl; book = refl });
+    waits = λ i f. inr (record { idle = idle i; complete = f; promised = refl; current = refl; length = refl; book = refl });
+    manages = λ m. inr (manages m);
   }
 
-  pub view_same : (V : View E) → ViewGrows V V
-  view_same V = record {
-    opened_by_fix = λ c h. h;
-    opening_length_fix = λ h. refl;
-    opening_book_fix = λ h. refl;
-    log_length_up = λ h. omega arith;
-    log_fix = λ h j k. refl;
-    formed_for_fix = λ c h. h;
+  pub replica_same : (r : Replica E) → ReplicaGrows r r
+  replica_same r = replica_stays r r (λ i. i) (λ m. m)
+
+  -- active in the view v that it promised, at a floor from its old one on
+  pub replica_active : (r r' : Replica E) (v fl : ℕ) → r.promised ≤ v → v ≡ r'.promised → r.floor v ≤ fl → r'.status ≡ active
+      → ReplicaGrows r (record r' { floor = upd r.floor v fl })
+  replica_active r r' v fl past here up act = record {
+    promised_up = omega arith;
+    floor_up = upd_all (λ w y. r.floor w ≤ y) r.floor v fl up (λ w _. omega arith);
+    floor_fix = upd_all (λ w y. w < r.promised → y ≡ r.floor w) r.floor v fl (λ h. absurd (omega arith)) (λ w _ _. refl);
+    waits = λ i f. absurd (subst Idle act i);
+    manages = λ m. absurd (cc);
   }
 
-  abbrev pub site : (ℕ → Replica E) → (ℕ → View E) → List (Message E) → List (Event E) → Site E
-  site R W p h = record { replicas = R; views = W; pool = p; history = h }
+  -- A view that grows
 
-  -- no replica and no view changes
-  pub grows_nothing : (s : Site E) (p : List (Message E)) (h : List (Event E)) → Grows s (site s.replicas s.views p h)
-  grows_nothing s p h = record {
-    replicas_grow = λ c. replica_same (s.replicas c);
-    views_grow = λ w. view_same (s.views w);
-    newly_formed = λ w e. inl e;
+  -- with its log as it was
+  pub log_same : (w : ℕ) (V : View E) (c : ℕ) → LogGrows w V (record V { formed_for = c })
+  log_same w V c = record {
+    opening_length_fix = refl;
+    opening_book_fix = refl;
+    log_length_up = omega arith;
+    log_fix = λ j h. refl;
+    log_new = λ j a b. absurd (omega arith);
   }
 
-  -- one replica changes
-  pub grows_replica : (s : Site E) (i : ℕ) (r : Replica E) (p : List (Message E)) (h : List (Event E)) → ReplicaGrows (s.replicas i) r
-      → Grows s (site (upd s.replicas i r) s.views p h)
-  grows_replica s i r p h g = record {
-    replicas_grow = upd_all (λ c x. ReplicaGrows (s.replicas c) x) s.replicas i r g (λ c _. replica_same (s.replicas c));
-    views_grow = λ w. view_same (s.views w);
-    newly_formed = λ w e. inl e;
-  }
+  pub view_same : (w : ℕ) (V : View E) → ViewGrows w V V
+  view_same w V = record { opened_by_fix = λ c h. h; formed_for_fix = λ c h. h; log = λ h. log_same w V V.formed_for }
 
-  -- one replica and one view change
-  pub grows_view : (s : Site E) (i : ℕ) (r : Replica E) (v : ℕ) (V : View E) (p : List (Message E)) (h : List (Event E))
-      → ReplicaGrows (s.replicas i) r → ViewGrows (s.views v) V
-      → ((s.views v).formed_for ≡ 0 → (V.formed_for ≡ 0) ⊎ ((upd s.replicas i r (caller_of v)).status ≢ manager))
-      → Grows s (site (upd s.replicas i r) (upd s.views v V) p h)
-  grows_view s i r v V p h g k new = record {
-    replicas_grow = upd_all (λ c x. ReplicaGrows (s.replicas c) x) s.replicas i r g (λ c _. replica_same (s.replicas c));
-    views_grow = upd_all (λ w x. ViewGrows (s.views w) x) s.views v V k (λ w _. view_same (s.views w));
-    newly_formed = upd_all (λ w x. (s.views w).formed_for ≡ 0 → (x.formed_for ≡ 0) ⊎ ((upd s.replicas i r (caller_of w)).status ≢ manager)) s.views v V new (λ w _ e. inl e);
-  }
+  -- What grows where only the replica i and the view v change
+
+  pub one_replica : (R : ℕ → Replica E) (i : ℕ) (r : Replica E) → ReplicaGrows (R i) r → (c : ℕ) → ReplicaGrows (R c) (upd R i r c)
+  one_replica R i r g = upd_all (λ c x. ReplicaGrows (R c) x) R i r g (λ c _. replica_same (R c))
+
+  pub one_view : (W : ℕ → View E) (v : ℕ) (V : View E) → ViewGrows v (W v) V → (w : ℕ) → ViewGrows w (W w) (upd W v V w)
+  one_view W v V g = upd_all (λ w x. ViewGrows w (W w) x) W v V g (λ w _. view_same w (W w))

@@ -1,134 +1,84 @@
 -- Promises keep the invariant: a replica calls a view, or accepts an invitation to one.
-use mathlib.Core.Path.{◌≡◌, refl, ap, ◌∙◌}
-use mathlib.Core.Bool.{Bool, true, false}
-use mathlib.Core.List.{List}
-use mathlib.Core.Logic.{◌⊎◌, inl, inr, ◌≢◌}
-use Prim.Native.Nat.{ℕ, suc, ◌≤◌, ◌<◌}
-use native.Mathlib.Omega.{arith}
-use lib.Dec.{eqb}
-use Rattle.protocol.specs.Updates.{upd, upd_same, upd_all}
+use Rattle.std.proofs.Common.{◌≡◌, ℕ, suc, ◌<◌, ◌≢◌, eqb, Bool, true, false, List, sym, ap, subst, ◌∙◌, refl, inl, arith}
+use Rattle.std.proofs.lemmas.Bool.{eqb-true}
+use Rattle.protocol.specs.Updates.{upd}
 use Rattle.protocol.specs.Members.{Member}
-use Rattle.protocol.specs.Views.{caller_of}
-use Rattle.protocol.specs.Model.{
-  Status,
-  active,
-  manager,
-  waiting,
-  Answer,
-  none,
-  crashed,
-  normal,
-  Replica,
-  Message,
-  answer,
-  Site,
-  promising,
-  answer_of,
-  next_view,
-  after_call,
-  after_invitation,
-}
-use Rattle.std.proofs.lemmas.Bool.{eqb-true, cases_lt}
-use Rattle.protocol.proofs.Cases.{manager_not_active, waiting_not_active, waiting_not_manager}
-use Rattle.protocol.proofs.Invariant.{AnswerOk, Invariant, MessageOk}
-use Rattle.protocol.proofs.Growth.{Grows, ReplicaGrows, grows_replica, site}
-use Rattle.protocol.proofs.Stable.{begins_log_stable, floor_stable, knows_primary_stable}
-use Rattle.protocol.proofs.Frame.{messages_still, one_more_message, step_replica}
+use Rattle.protocol.specs.Model.{Status, active, manager, waiting, Answer, none, crashed, normal, Replica, View, Site}
+use Rattle.protocol.specs.Model.{Message, answer, promising, answer_of, next_view, after_call, after_invitation}
+use Rattle.protocol.proofs.Updates.{upd_all, upd_same}
+use Rattle.protocol.proofs.Members.{each_last}
+use Rattle.protocol.proofs.Invariant.{AnswerOk, AnswersOk, Invariant, LastIn, MessageOk, ReplicaOk}
+use Rattle.protocol.proofs.Frame.{Still, step_replica}
 
-module _ {E : Type 0} (n : ℕ) (s : Site E) (inv : Invariant n s) where
+module _ {E : Type 0} where
   -- what c answers is so once it has promised v
-  answer_of_ok : (s' : Site E) → Grows s s' → (c v : ℕ) → (s.replicas c).promised < v
-      → (s'.replicas c).promised ≡ v → (s'.replicas c).current ≡ (s.replicas c).current → (s'.replicas c).floor ≡ (s.replicas c).floor
-      → AnswerOk s' c v (answer_of c (s.replicas c))
-  answer_of_ok s' grows c v up promised_is current_is floor_is = go (s.replicas c).complete refl
+  answer_of_ok : {n : ℕ} {R : ℕ → Replica E} {W : ℕ → View E} {c : ℕ} {r : Replica E} → ReplicaOk n R W c r → (t : Status) (v : ℕ) (a : ℕ → Answer) → r.promised < v
+      → AnswerOk (promising r t v a) W c v (answer_of c r)
+  answer_of_ok {W} {c} {r} h t v a up = go r.complete refl
     where
-      upto : (w : ℕ) → w < v → 1 ≤ (s'.replicas c).floor w → w ≤ (s.replicas c).current
-      upto w a b = ((inv.replica_ok c).floors w (omega (arith, ap (λ g. g w) floor_is))).reached
+      last : LastIn (promising r t v a) v r.current
+      last = record { past = omega arith; upto = λ w _ b. (h.held.floors w b).reached }
 
-      go : (b : Bool) → (s.replicas c).complete ≡ b
-          → AnswerOk s' c v (elim b [ true ↦ normal (s.replicas c).current (s.replicas c).length (eqb (s.replicas c).primary c) | false ↦ crashed (s.replicas c).current ])
+      go : (b : Bool) → r.complete ≡ b
+          → AnswerOk (promising r t v a) W c v (elim b [ true ↦ normal r.current r.length (eqb r.primary c) | false ↦ crashed r.current ])
       go true f = record {
-        past = omega arith;
-        upto = upto;
-        before = omega (arith, (inv.replica_ok c).ordered);
-        at_floor = ap (λ g. g (s.replicas c).current) floor_is ∙ (inv.replica_ok c).at_floor f;
-        leads = λ e. knows_primary_stable s s' grows (s.replicas c) (inv.replica_ok c) f ∙ ap suc (eqb-true (s.replicas c).primary c e);
-        kept = λ _ _ _. current_is;
+        last = last;
+        before = omega (arith, h.state.ordered);
+        at_floor = (h.held.its_book f).at_floor;
+        leads = λ e. (h.held.its_book f).led ∙ ap suc (eqb-true r.primary c e);
+        kept = λ _ _ _. refl;
       }
-      go false f = record { past = omega arith; upto = upto }
+      go false f = last
 
-  -- i promises v
-  module _ (i : ℕ) (t : Status) (v : ℕ) (a : ℕ → Answer) (ms : List (Message E)) (up : (s.replicas i).promised < v) where
-    abbrev replica' : Replica E
-    replica' = promising (s.replicas i) t v a
+  module _ (n : ℕ) (s : Site E) (inv : Invariant n s) where
+    -- i promises v
+    module _ (i : ℕ) (t : Status) (v : ℕ) (a : ℕ → Answer) (up : (s.replicas i).promised < v) where
+      abbrev r' : Replica E
+      r' = promising (s.replicas i) t v a
 
-    abbrev site' : Site E
-    site' = site (upd s.replicas i replica') s.views ms s.history
+      abbrev R : ℕ → Replica E
+      R = upd s.replicas i r'
 
-    replica_grows : ReplicaGrows (s.replicas i) replica'
-    replica_grows = record {
-      promised_up = omega arith;
-      floor_up = λ w. omega arith;
-      floor_fix = λ w h. refl;
-      still = λ x f. inl up;
-    }
+      own_answer : AnswerOk (R i) s.views i v (answer_of i (s.replicas i))
+      own_answer = subst (λ x. AnswerOk x s.views i v (answer_of i (s.replicas i))) (sym (upd_same s.replicas i r')) (answer_of_ok (inv.replica_ok i) t v a up)
 
-    site_grows : Grows s site'
-    site_grows = grows_replica s i replica' ms s.history replica_grows
+      promise_ok : (ms : List (Message E)) → t ≢ active → (t ≡ manager → AnswersOk R s.views i v a)
+          → (Still n s inv R s.views → (m : Message E) → Member m ms → MessageOk n R s.views m)
+          → Invariant n (record s { replicas = R; pool = ms })
+      promise_ok ms not_active answers messages =
+          step_replica n s inv i r' ms
+          (record { promised_up = omega arith; floor_up = λ w. omega arith; floor_fix = λ w h. refl; waits = λ _ _. inl up; manages = λ _. inl up })
+          (λ old.
+          let h = old.replica i in
+          record {
+            state = record {
+              ordered = omega (arith, h.state.ordered);
+              idle = λ _ _. omega (arith, h.state.ordered);
+              active_complete = λ x. absurd (not_active x);
+              active_current = λ x. absurd (not_active x);
+            };
+            held = h.held;
+            answers = answers;
+            counted = λ x. absurd (not_active x);
+          })
+          messages
 
-    own_answer : AnswerOk site' i v (answer_of i (s.replicas i))
-    own_answer =
-        let e = upd_same s.replicas i replica' in
-        answer_of_ok site' site_grows i v up (ap (λ x. x.promised) e) (ap (λ x. x.current) e) (ap (λ x. x.floor) e)
-
-    promise_ok : t ≢ active → (t ≡ manager → (d : ℕ) → AnswerOk site' d v (a d)) → (t ≡ manager → caller_of v ≡ i) → (t ≡ manager → (s.views v).formed_for ≡ 0)
-        → ((m : Message E) → Member m ms → MessageOk n site' m) → Invariant n site'
-    promise_ok not_active answers own unformed messages =
-        let h = inv.replica_ok i in
-        step_replica n s inv i replica' ms replica_grows (record {
-          ordered = omega (arith, h.ordered);
-          idle = λ x f. omega (arith, h.ordered);
-          active_complete = λ x. absurd (not_active x);
-          active_current = λ x. absurd (not_active x);
-          knows_primary = knows_primary_stable s site' site_grows (s.replicas i) h;
-          at_floor = h.at_floor;
-          begins_log = begins_log_stable s site' site_grows (s.replicas i) h;
-          floors = λ w k. floor_stable s site' site_grows (h.floors w k);
-          answers_ok = answers;
-          own_view = own;
-          unformed = unformed;
-          acknowledged_ok = λ x. absurd (not_active x);
+    pub call_ok : (i : ℕ) → i < 8 → Invariant n (after_call s i)
+    call_ok i h =
+        let r = s.replicas i in
+        let t = after_call s i in
+        let v : ℕ = next_view r i in
+        let a : ℕ → Answer = upd (λ _. none) i (answer_of i r) in
+        let up : r.promised < v = omega arith in
+        promise_ok i manager v a up s.pool (λ x. cc)
+        (λ _. record {
+          own = omega arith;
+          each = upd_all (λ d b. AnswerOk (t.replicas d) t.views d v b) (λ _. none) i (answer_of i r) (own_answer i manager v a up) (λ d _. tt);
         })
-        messages
+        (λ old. old.message)
 
-  next_later : (r : Replica E) (i : ℕ) → r.promised < next_view r i
-  next_later r i = omega arith
-
-  next_own : (r : Replica E) (i : ℕ) → i < 8 → caller_of (next_view r i) ≡ i
-  next_own r i h = omega arith
-
-  pub call_ok : (i : ℕ) → i < 8 → Invariant n (after_call s i)
-  call_ok i h =
-      let a : ℕ → Answer = upd (λ _. none) i (answer_of i (s.replicas i)) in
-      promise_ok i manager v a s.pool up (λ e. manager_not_active e)
-      (λ _. upd_all (λ d b. AnswerOk (after_call s i) d v b) (λ _. none) i (answer_of i (s.replicas i)) (own_answer i manager v a s.pool up) (λ d _. tt))
-      (λ _. next_own (s.replicas i) i h)
-      (λ _. unformed (cases_lt 0 (s.views v).formed_for))
-      (messages_still n s inv (after_call s i) (site_grows i manager v a s.pool up))
-    where
-      v : ℕ
-      v = next_view (s.replicas i) i
-
-      up : (s.replicas i).promised < v
-      up = next_later (s.replicas i) i
-
-      unformed : (0 < (s.views v).formed_for) ⊎ ((s.views v).formed_for ≤ 0) → (s.views v).formed_for ≡ 0
-      unformed (inr k) = omega arith
-      unformed (inl k) = absurd (omega (arith, (inv.view_ok v).called k, ap (λ x. (s.replicas x).promised) (next_own (s.replicas i) i h), up))
-
-  pub invitation_ok : (a c v : ℕ) → (s.replicas c).promised < v → Invariant n (after_invitation s a c v)
-  invitation_ok a c v up =
-      let t = after_invitation s a c v in
-      promise_ok c waiting v (λ _. none) t.pool up
-      (λ e. waiting_not_active e) (λ e. absurd (waiting_not_manager e)) (λ e. absurd (waiting_not_manager e)) (λ e. absurd (waiting_not_manager e))
-      (one_more_message n s inv t (site_grows c waiting v (λ _. none) t.pool up) (answer c a v (answer_of c (s.replicas c))) (own_answer c waiting v (λ _. none) t.pool up))
+    pub invitation_ok : (a c v : ℕ) → (s.replicas c).promised < v → Invariant n (after_invitation s a c v)
+    invitation_ok a c v up =
+        let t = after_invitation s a c v in
+        promise_ok c waiting v (λ _. none) up t.pool (λ x. cc) (λ x. absurd (cc))
+        (λ old. each_last (λ m. MessageOk n t.replicas t.views m) s.pool (answer c a v (answer_of c (s.replicas c))) old.message (own_answer c waiting v (λ _. none) up))

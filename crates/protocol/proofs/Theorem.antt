@@ -6,8 +6,7 @@ use Rattle.protocol.proofs.Invariant.{Invariant}
 use Rattle.protocol.proofs.Runs.{invariant_of_run}
 use Rattle.protocol.proofs.Survival.{in_lookups, in_openings}
 use Rattle.protocol.proofs.OneList.{one_list}
-use Rattle.protocol.proofs.HandedOnce.{handed_once}
-use Rattle.protocol.proofs.AtMostOnce.{handed_at_most_once, opened_at_most_once}
+use Rattle.protocol.proofs.Once.{handed_at_most_once, handed_once, opened_at_most_once}
 
 module _ {E : Type 0} where
   stands_by : (n : ℕ) (s : Site E) → Invariant n s → Stands s

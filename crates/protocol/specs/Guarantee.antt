@@ -7,10 +7,7 @@ module _ {E : Type 0} where
   -- the change that an event hands out with the stamp of view w and place k, or none
   abbrev pub handed_by : ℕ → ℕ → Event E → List E
   handed_by w k (handed z j x) = cond (eqb z w && eqb j k) (x ∷ []) []
-  handed_by w k (opening v l f) = []
-  handed_by w k (looked_up v l f) = []
-  handed_by w k (confirmed v l f) = []
-  handed_by w k (lost v z j) = []
+  handed_by w k _ = []
 
   -- all changes that were handed out with that stamp, the latest first
   abbrev pub handed_with : ℕ → ℕ → List (Event E) → List E
@@ -19,11 +16,8 @@ module _ {E : Type 0} where
 
   -- an event as an opening of the view v, or none
   abbrev pub openings_by : ℕ → Event E → List (Event E)
-  openings_by v (handed w k x) = []
   openings_by v (opening w l f) = cond (eqb w v) (opening w l f ∷ []) []
-  openings_by v (looked_up w l f) = []
-  openings_by v (confirmed w l f) = []
-  openings_by v (lost w z k) = []
+  openings_by v _ = []
 
   -- all openings of that view, the latest first
   abbrev pub openings_of : ℕ → List (Event E) → List (Event E)

@@ -1,6 +1,5 @@
--- Majorities of the numbers below n: any two have a member in common.
-use Rattle.std.specs.Prelude.{◌≡◌, refl, Bool, true, false, ℕ, zero, suc, ◌+◌, ◌*◌, ◌<◌}
-use Rattle.std.proofs.Common.{arith}
+-- Majorities of the numbers below n.
+use Rattle.std.specs.Prelude.{Bool, true, false, ℕ, zero, suc, ◌+◌, ◌*◌, ◌<◌}
 
 abbrev pub bit : Bool → ℕ
 bit true = 1
@@ -14,27 +13,3 @@ count q (suc n) = bit (q n) + count q n
 -- more than half of the numbers below n pass the test
 abbrev pub Majority : ℕ → (ℕ → Bool) → Type 0
 Majority n q = n < 2 * count q n
-
-pub record Meet (p q : ℕ → Bool) (n : ℕ) : Type 0 where
-  pub who : ℕ
-  pub below : who < n
-  pub left : p who ≡ true
-  pub right : q who ≡ true
-
--- two sets that are together more than n have a member in common
-pub meet : (p q : ℕ → Bool) (n : ℕ) → n < count p n + count q n → Meet p q n
-unfolding count
-meet p q zero h = absurd (omega arith)
-meet p q (suc n) h = go (λ k. meet p q n k) (p n) (q n) refl refl h
-  where
-    up : Meet p q n → Meet p q (suc n)
-    up m = record { who = m.who; below = omega arith; left = m.left; right = m.right }
-
-    go : (n < count p n + count q n → Meet p q n) → (a b : Bool) → p n ≡ a → q n ≡ b → suc n < (bit a + count p n) + (bit b + count q n) → Meet p q (suc n)
-    go ih true true e f k = record { who = n; below = omega arith; left = e; right = f }
-    go ih true false e f k = up (ih (omega arith))
-    go ih false true e f k = up (ih (omega arith))
-    go ih false false e f k = up (ih (omega arith))
-
-pub majorities_meet : (p q : ℕ → Bool) (n : ℕ) → Majority n p → Majority n q → Meet p q n
-majorities_meet p q n h k = meet p q n (omega arith)

@@ -82,25 +82,13 @@ pub record Site (E : Type 0) : Type 0 where
   pub pool : List (Message E)
   pub history : List (Event E)
 
-abbrev pub Opened : {E : Type 0} → View E → Type 0
-Opened V = 1 ≤ V.opened_by
-
--- up, and active in no view
-abbrev pub Idle : Status → Type 0
-Idle active = ⊥
-Idle manager = Unit {0}
-Idle waiting = Unit {0}
-Idle down = ⊥
-
 abbrev pub is_normal : Answer → Bool
-is_normal none = false
-is_normal (crashed u) = false
 is_normal (normal u l p) = true
+is_normal _ = false
 
 abbrev pub is_answer : Answer → Bool
 is_answer none = false
-is_answer (crashed u) = true
-is_answer (normal u l p) = true
+is_answer _ = true
 
 -- x is the latest view of the normal answers, and l the greatest length that was answered in it
 pub record Latest (n : ℕ) (a : ℕ → Answer) (x l : ℕ) : Type 0 where
@@ -121,33 +109,16 @@ module _ {E : Type 0} where
 
   -- one entry more, in its current view
   abbrev pub appending : Replica E → Entry E → (ℕ → ℕ) → Replica E
-  appending r e acknowledged = record {
-    status = r.status;
-    current = r.current;
-    promised = r.promised;
-    complete = r.complete;
-    primary = r.primary;
+  appending r e acknowledged = record r {
     length = suc r.length;
     book = upd r.book r.length e;
     acknowledged = acknowledged;
-    answers = r.answers;
     floor = upd r.floor r.current (suc (suc r.length));
   }
 
   -- promised to the view v, as manager or waiting
   abbrev pub promising : Replica E → Status → ℕ → (ℕ → Answer) → Replica E
-  promising r t v a = record {
-    status = t;
-    current = r.current;
-    promised = v;
-    complete = r.complete;
-    primary = r.primary;
-    length = r.length;
-    book = r.book;
-    acknowledged = λ _. 0;
-    answers = a;
-    floor = r.floor;
-  }
+  promising r t v a = record r { status = t; promised = v; acknowledged = λ _. 0; answers = a }
 
   -- active in the view v under the primary p, with this book
   abbrev pub entering : Replica E → (v p length : ℕ) → (ℕ → Entry E) → (ℕ → ℕ) → Replica E
@@ -166,104 +137,46 @@ module _ {E : Type 0} where
 
   -- no longer a manager
   abbrev pub resting : Replica E → Replica E
-  resting r = record {
-    status = waiting;
-    current = r.current;
-    promised = r.promised;
-    complete = r.complete;
-    primary = r.primary;
-    length = r.length;
-    book = r.book;
-    acknowledged = λ _. 0;
-    answers = λ _. none;
-    floor = r.floor;
-  }
+  resting r = record r { status = waiting; acknowledged = λ _. 0; answers = λ _. none }
 
   abbrev pub with_answers : Replica E → (ℕ → Answer) → Replica E
-  with_answers r a = record {
-    status = r.status;
-    current = r.current;
-    promised = r.promised;
-    complete = r.complete;
-    primary = r.primary;
-    length = r.length;
-    book = r.book;
-    acknowledged = r.acknowledged;
-    answers = a;
-    floor = r.floor;
-  }
+  with_answers r a = record r { answers = a }
 
   abbrev pub with_acknowledged : Replica E → (ℕ → ℕ) → Replica E
-  with_acknowledged r a = record {
-    status = r.status;
-    current = r.current;
-    promised = r.promised;
-    complete = r.complete;
-    primary = r.primary;
-    length = r.length;
-    book = r.book;
-    acknowledged = a;
-    answers = r.answers;
-    floor = r.floor;
-  }
+  with_acknowledged r a = record r { acknowledged = a }
 
   -- all is forgotten but the two views
   abbrev pub forgetting : Replica E → Status → Replica E
-  forgetting r t = record {
-    status = t;
-    current = r.current;
-    promised = r.promised;
-    complete = false;
-    primary = 0;
-    length = 0;
-    book = r.book;
-    acknowledged = λ _. 0;
-    answers = λ _. none;
-    floor = r.floor;
-  }
+  forgetting r t = record r { status = t; complete = false; primary = 0; length = 0; acknowledged = λ _. 0; answers = λ _. none }
 
   -- how the history of a view changes
 
   abbrev pub growing : View E → Entry E → View E
-  growing V e = record {
-    opened_by = V.opened_by;
-    formed_for = V.formed_for;
-    opening_length = V.opening_length;
-    opening_book = V.opening_book;
-    log_length = suc V.log_length;
-    log = upd V.log V.log_length e;
-  }
+  growing V e = record V { log_length = suc V.log_length; log = upd V.log V.log_length e }
 
   abbrev pub forming : View E → ℕ → View E
-  forming V c = record {
-    opened_by = V.opened_by;
-    formed_for = suc c;
-    opening_length = V.opening_length;
-    opening_book = V.opening_book;
-    log_length = V.log_length;
-    log = V.log;
-  }
+  forming V c = record V { formed_for = suc c }
 
   -- opened by c with this book
   abbrev pub opening_by : View E → (c length : ℕ) → (ℕ → Entry E) → View E
-  opening_by V c l f = record { opened_by = suc c; formed_for = V.formed_for; opening_length = l; opening_book = f; log_length = l; log = f }
+  opening_by V c l f = record V { opened_by = suc c; opening_length = l; opening_book = f; log_length = l; log = f }
 
   -- how a site changes
 
   abbrev pub with_replica : Site E → ℕ → Replica E → Site E
-  with_replica s i r = record { replicas = upd s.replicas i r; views = s.views; pool = s.pool; history = s.history }
+  with_replica s i r = record s { replicas = upd s.replicas i r }
 
   abbrev pub with_view : Site E → ℕ → View E → Site E
-  with_view s w V = record { replicas = s.replicas; views = upd s.views w V; pool = s.pool; history = s.history }
+  with_view s w V = record s { views = upd s.views w V }
 
   abbrev pub with_pool : Site E → List (Message E) → Site E
-  with_pool s ms = record { replicas = s.replicas; views = s.views; pool = ms; history = s.history }
+  with_pool s ms = record s { pool = ms }
 
   abbrev pub send : Site E → Message E → Site E
   send s m = with_pool s (s.pool ++ (m ∷ []))
 
   abbrev pub note : Site E → Event E → Site E
-  note s x = record { replicas = s.replicas; views = s.views; pool = s.pool; history = x ∷ s.history }
+  note s x = record s { history = x ∷ s.history }
 
   -- what c answers when it is invited to a view
   abbrev pub answer_of : ℕ → Replica E → Answer
@@ -388,20 +301,6 @@ module _ {E : Type 0} where
 
   -- the site that runs start from: all below n are active in the view 0 under the primary 0, with empty books
 
-  abbrev pub active_replica : (ℕ → Entry E) → ℕ → Replica E
-  active_replica blank c = record {
-    status = active;
-    current = 0;
-    promised = 0;
-    complete = true;
-    primary = 0;
-    length = 0;
-    book = blank;
-    acknowledged = pick (ℕ_discrete c 0) (upd (λ _. 0) 0 1) (λ _. 0);
-    answers = λ _. none;
-    floor = upd (λ _. 0) 0 1;
-  }
-
   abbrev pub absent_replica : (ℕ → Entry E) → Replica E
   absent_replica blank = record {
     status = down;
@@ -416,17 +315,21 @@ module _ {E : Type 0} where
     floor = λ _. 0;
   }
 
+  -- the primary has acknowledged its own length
+  abbrev pub active_replica : (ℕ → Entry E) → ℕ → Replica E
+  active_replica blank c = entering (absent_replica blank) 0 0 0 blank (pick (ℕ_discrete c 0) (upd (λ _. 0) 0 1) (λ _. 0))
+
   abbrev pub made_replica : ℕ → (ℕ → Entry E) → ℕ → Replica E
   made_replica n blank c = pick (dec_lt c n) (active_replica blank c) (absent_replica blank)
-
-  abbrev pub first_view : (ℕ → Entry E) → View E
-  first_view blank = record { opened_by = 1; formed_for = 1; opening_length = 0; opening_book = blank; log_length = 0; log = blank }
 
   abbrev pub unopened_view : (ℕ → Entry E) → View E
   unopened_view blank = record { opened_by = 0; formed_for = 0; opening_length = 0; opening_book = blank; log_length = 0; log = blank }
 
+  abbrev pub first_view : (ℕ → Entry E) → View E
+  first_view blank = record (unopened_view blank) { opened_by = 1; formed_for = 1 }
+
   abbrev pub made_view : (ℕ → Entry E) → ℕ → View E
-  made_view blank w = pick (ℕ_discrete w 0) (first_view blank) (unopened_view blank)
+  made_view blank = upd (λ _. unopened_view blank) 0 (first_view blank)
 
   abbrev pub made : ℕ → (ℕ → Entry E) → Site E
   made n blank = record { replicas = made_replica n blank; views = made_view blank; pool = []; history = opening 0 0 blank ∷ [] }

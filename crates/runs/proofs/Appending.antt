@@ -10,7 +10,8 @@ use Rattle.controller.specs.declared.records.Status.{Status}
 use Rattle.controller.specs.declared.records.Status.TheVariants.{Down, Waiting, Manager, Backup, Primary}
 use Rattle.controller.specs.Books.{appended, item, own_length}
 use Rattle.controller.specs.Records.{is_up}
-use Rattle.protocol.specs.Updates.{upd, upd_all}
+use Rattle.protocol.specs.Updates.{upd}
+use Rattle.protocol.proofs.Updates.{upd_all}
 use Rattle.protocol.specs.Model as model
 use Rattle.protocol.specs.Model.{Replica, appending}
 use Rattle.runs.proofs.Bond.{OwnR, ReplicaR, Small, StatusR, the_entry}

@@ -12,7 +12,7 @@ use Rattle.controller.proofs.Actions.{AllYes}
 use Rattle.site.specs.States.{State, book, put_share, row}
 use Rattle.site.specs.Steps.{share}
 use Rattle.protocol.specs.Updates.{upd}
-use Rattle.protocol.specs.Views.{view_number_parts}
+use Rattle.protocol.proofs.Views.{view_number_parts}
 use Rattle.protocol.specs.Model as model
 use Rattle.protocol.specs.Model.{Run, Site, answer_of, manager, next_view, none, promising, then}
 use Rattle.runs.specs.declared.steps.Step.TheVariants.{Call}

@@ -22,7 +22,8 @@ use Rattle.controller.proofs.Actions.{AllYes}
 use Rattle.site.specs.States.{State, book, has_room, put_share, row}
 use Rattle.site.specs.Steps.{share}
 use Rattle.protocol.specs.Members.{Member}
-use Rattle.protocol.specs.Updates.{upd, upd_same}
+use Rattle.protocol.specs.Updates.{upd}
+use Rattle.protocol.proofs.Updates.{upd_same}
 use Rattle.protocol.specs.Model as model
 use Rattle.protocol.specs.Model.{Replica, Run, Site, deliver_formation, entering, opening_by, then, with_replica, with_view}
 use Rattle.runs.specs.History.{Event, book_at, opened}

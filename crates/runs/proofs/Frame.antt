@@ -19,7 +19,8 @@ use Rattle.controller.specs.Books.{item}
 use Rattle.controller.specs.Records.{down_record}
 use Rattle.site.specs.States.{State, book, part, put_share, sent, with_count, with_part, with_row}
 use Rattle.protocol.specs.Members.{Member}
-use Rattle.protocol.specs.Updates.{upd, upd_all}
+use Rattle.protocol.specs.Updates.{upd}
+use Rattle.protocol.proofs.Updates.{upd_all}
 use Rattle.protocol.specs.Model as model
 use Rattle.protocol.specs.Model.{Replica, Site, note, send}
 use Rattle.runs.specs.History.{Event}

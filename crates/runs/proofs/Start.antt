@@ -21,7 +21,8 @@ use Rattle.controller.specs.Questions.{ask, asks}
 use Rattle.controller.specs.Records.{down_record, first_record, first_status, only}
 use Rattle.site.specs.Making.{cells_zero, made_row, made_site, make_step, same_row, sizes_ok}
 use Rattle.site.specs.States.{Done, State, book, fault_by, row}
-use Rattle.protocol.specs.Updates.{pick, upd, upd_other, upd_same}
+use Rattle.protocol.specs.Updates.{pick, upd}
+use Rattle.protocol.proofs.Updates.{upd_other, upd_same}
 use Rattle.protocol.specs.Model as model
 use Rattle.protocol.specs.Model.{active_replica, made, made_replica}
 use Rattle.runs.specs.History.{opened}

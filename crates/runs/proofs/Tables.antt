@@ -8,7 +8,8 @@ use Rattle.entries.specs.declared.book.Reply.{Reply}
 use Rattle.entries.specs.declared.book.Reply.TheVariants.{Normal, Crash}
 use Rattle.controller.specs.declared.records.Controller.{Controller}
 use Rattle.controller.specs.Records.{only, reply_of}
-use Rattle.protocol.specs.Updates.{upd, upd_all}
+use Rattle.protocol.specs.Updates.{upd}
+use Rattle.protocol.proofs.Updates.{upd_all}
 use Rattle.protocol.specs.Model as model
 use Rattle.protocol.specs.Model.{Replica, answer_of, crashed, normal}
 use Rattle.runs.proofs.Bond.{Small, SmallAnswer, code, the_answer}
