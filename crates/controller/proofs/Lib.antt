@@ -1,2 +1,3 @@
 pub mod Actions
+pub mod Forms
 pub mod Places

@@ -2,6 +2,7 @@ pub mod Actions
 pub mod Books
 pub mod Deliveries
 pub mod Faults
+pub mod Forms
 pub mod Joins
 pub mod Lookups
 pub mod Messages

@@ -1,9 +1,12 @@
 //! Calling a view, inviting to it and forming it.
-ghost use Rattle.std.specs.Prelude.{◌≡◌, Bool, List};
+ghost use Rattle.std.specs.Prelude.{◌≡◌, Bool, List, Option, take};
 ghost use Rattle.entries.specs.declared.book.Entry.{Entry};
+ghost use Rattle.entries.specs.declared.book.Reply.{Reply as Replied};
 ghost use Rattle.cabinet.specs.declared.cells.Cell.{Cell};
 ghost use Rattle.controller.specs.declared.outcomes.Outcome.TheVariants.{Done, Formed};
 ghost use Rattle.controller.specs.Actions.{as_outcome, effect, handed, handed_message, own};
+ghost use Rattle.controller.specs.declared.records.Status.TheVariants.{Manager};
+ghost use Rattle.controller.specs.Forms.{FormsByRules, chosen_in};
 ghost use Rattle.controller.specs.Records.{reply_of};
 ghost use Rattle.controller.specs.ViewChanges.{call as calls, form as forms, form_choice, invite as invites};
 
@@ -88,7 +91,8 @@ fn chosen(me: Member, row: &Controller) -> Option<ControllerNumber>
 
 /// Forms the view by the rules: the chosen controller is to open it, and this one waits.
 pub fn form<E>(me: Member, row: &mut Controller, room: bool) -> Result<Message<E>, Fault>
-    ensures { (b : List (Entry E)) (cs : List Cell) → effect me.number room (own row.old b cs) (forms me.n) ≡ handed_message (λ m. Formed m.addressee) result (own row.new b cs) }
+    ensures rules { (answers : List (Option Replied)) → row.old.status ≡ Manager answers → FormsByRules (take me.n answers) me.n (chosen_in result) }
+    ensures step { (b : List (Entry E)) (cs : List Cell) → effect me.number room (own row.old b cs) (forms me.n) ≡ handed_message (λ m. Formed m.addressee) result (own row.new b cs) }
 {
     ask(me, row.is_up(), Refusal::WrongPower)?;
     ask(me, row.is_manager(), Refusal::WrongStatus)?;

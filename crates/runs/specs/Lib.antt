@@ -1,4 +1,5 @@
 pub mod ExampleRuns
 pub mod Guarantee
 pub mod History
+pub mod Records
 pub mod Runs

@@ -10,6 +10,7 @@ ghost use Rattle.controller.specs.Slips.{slip_of};
 ghost use Rattle.site.specs.Making.{make_step};
 ghost use Rattle.site.specs.States.{done, fault_by, state};
 ghost use Rattle.runs.specs.Guarantee.{GoesOn, Guarantee};
+ghost use Rattle.runs.specs.Records.{InOrder, StaysInOrder};
 ghost use Rattle.runs.specs.Runs.{made_and_ran, played, ran, ran_to, settle_step, step as step_of, steps_of, verdict_in};
 
 use crate::steps::{Step, Turn};
@@ -113,6 +114,7 @@ pub fn resume<E: Kind, C: Cabinet>(
 )
     ensures state { ran E.says E.UNSETTLED (state site.old (C.cells cab.old).list books.old pool.old) (steps_of turns.old) ≡ state site.new (C.cells cab.new).list books.new pool.new }
     ensures turns { played E.says E.UNSETTLED (state site.old (C.cells cab.old).list books.old pool.old) turns.old ≡ turns.new }
+    ensures records { StaysInOrder E.says E.UNSETTLED (state site.old (C.cells cab.old).list books.old pool.old) (state site.new (C.cells cab.new).list books.new pool.new) }
     ensures guarantee { GoesOn E.says E.UNSETTLED (state site.old (C.cells cab.old).list books.old pool.old) (steps_of turns.old) (state site.new (C.cells cab.new).list books.new pool.new) }
 {
     for turn in turns.iter_mut() {
@@ -131,6 +133,7 @@ pub fn run<E: Kind, C: Cabinet>(
     turns: &mut [Turn<E>],
 ) -> Result<(), Fault>
     ensures gives { made_and_ran E.says E.UNSETTLED (make_step (state site.old (C.cells cab.old).list books.old pool.old) n cap) turns.old ≡ ran_to result (state site.new (C.cells cab.new).list books.new pool.new) turns.new }
+    ensures records { result ≡ Ok tt → InOrder (state site.new (C.cells cab.new).list books.new pool.new) }
     ensures guarantee { result ≡ Ok tt → Guarantee E.says E.UNSETTLED (make_step (state site.old (C.cells cab.old).list books.old pool.old) n cap).state (steps_of turns.old) }
 {
     site.make(cab, books, pool, n, cap)?;

@@ -1,5 +1,6 @@
 -- What a fault of the site says, from the controller's fault.
 use Rattle.std.specs.Prelude.{ℕ, Ok, Err, Result}
+use Rattle.numbers.specs.declared.refusals.Refusal.{Refusal}
 use Rattle.numbers.specs.declared.refusals.Refusal.TheVariants.{CellWorn}
 use Rattle.controller.specs.declared.faults.Fault.{Fault as Stopped}
 use Rattle.controller.specs.declared.faults.Fault.TheVariants.{Worn, Refused}
@@ -23,3 +24,8 @@ about_message j f = record f { named = in_place j f.named }
 abbrev pub about : {A : Type 0} → ℕ → Result A Fault → Result A Fault
 about j (Ok x) = Ok x
 about j (Err f) = Err (about_message j f)
+
+-- a result without what its fault names
+abbrev pub refusal_alone : {A : Type 0} → Result A Fault → Result A Refusal
+refusal_alone (Ok x) = Ok x
+refusal_alone (Err f) = Err f.refusal

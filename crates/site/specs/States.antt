@@ -5,10 +5,12 @@ use Rattle.numbers.specs.declared.views.ControllerNumber.{ControllerNumber}
 use Rattle.numbers.specs.declared.refusals.Refusal.{Refusal}
 use Rattle.entries.specs.declared.book.Entry.{Entry}
 use Rattle.entries.specs.declared.book.Message.{Message}
+use Rattle.entries.specs.declared.book.Reply.{Reply}
 use Rattle.cabinet.specs.declared.cells.Cell.{Cell}
 use Rattle.forming.specs.declared.members.Member.{Member}
 use Rattle.forming.specs.Members.{is_member}
 use Rattle.controller.specs.declared.records.Controller.{Controller}
+use Rattle.controller.specs.declared.records.Status.TheVariants.{Manager}
 use Rattle.controller.specs.Actions.{Own}
 use Rattle.controller.specs.Records.{down_record}
 use Rattle.site.specs.declared.faults.Fault.{Fault}
@@ -130,3 +132,9 @@ abbrev pub MessageFails : Site → ℕ → ℕ → ℕ → Fault → Type 0
 MessageFails x books pool j e =
     ((made_with x books pool ≡ false) × (e ≡ fault_about j NotMade))
     ⊎ ((made_with x books pool ≡ true) × ((nat_lt j x.count ≡ false) × (e ≡ fault_about j NoSuchMessage)))
+
+-- controller i is a manager of the site, which is made, and has counted these answers
+pub record Manages {E : Type 0} (s : State E) (i : ControllerNumber) (answers : List (Option Reply)) : Type 0 where
+  pub made : is_made s ≡ true
+  pub below : is_member s.site.n i ≡ true
+  pub status : (row s i).status ≡ Manager answers

@@ -1,10 +1,13 @@
 //! Calling a view, inviting to it and forming it.
-ghost use Rattle.std.specs.Prelude.{◌≡◌, List};
+ghost use Rattle.std.specs.Prelude.{◌≡◌, List, Option, take};
+ghost use Rattle.entries.specs.declared.book.Reply.{Reply};
 ghost use Rattle.cabinet.specs.declared.cells.Cell.{Cell};
 ghost use Rattle.controller.specs.declared.outcomes.Outcome.TheVariants.{Done, Formed};
 ghost use Rattle.controller.specs.Actions.{as_outcome};
 ghost use Rattle.controller.specs.ViewChanges.{call as calls, form as forms, invite as invites};
-ghost use Rattle.site.specs.States.{done, state};
+ghost use Rattle.controller.specs.Forms.{FormsByRules};
+ghost use Rattle.site.specs.Faults.{refusal_alone};
+ghost use Rattle.site.specs.States.{Manages, done, state};
 ghost use Rattle.site.specs.Steps.{step_at, step_between};
 
 use crate::faults::Fault;
@@ -53,7 +56,8 @@ impl Site {
         pool: &mut [Message<E>],
         i: ControllerNumber,
     ) -> Result<ControllerNumber, Fault>
-        ensures { (cs : List Cell) → step_at (state self.old cs books.now pool.old) i (forms self.old.n) ≡ done (as_outcome Formed result) (state self.new cs books.now pool.new) }
+        ensures rules { (cs : List Cell) (answers : List (Option Reply)) → Manages (state self.old cs books.now pool.old) i answers → FormsByRules (take self.old.n answers) self.old.n (refusal_alone result) }
+        ensures step { (cs : List Cell) → step_at (state self.old cs books.now pool.old) i (forms self.old.n) ≡ done (as_outcome Formed result) (state self.new cs books.now pool.new) }
     {
         let me = self.member(books, pool, i)?;
         let room = self.has_room(pool);

@@ -1,7 +1,7 @@
 use Rattle.std.proofs.Common.{arith}
 use Rattle.site.specs.States.{state}
 use Rattle.runs.specs.Runs.{steps_of}
-use Rattle.runs.proofs.Guaranteed.{goes_on}
+use Rattle.runs.proofs.Guaranteed.{goes_on, stays_in_order}
 use Rattle.runs.proofs.Leading.{leads_end, leads_on}
 use Rattle.runs.proofs.playing.resume.Goals as goal
 
@@ -16,5 +16,6 @@ returns g c =
     record {
       state = end.0;
       turns = end.1;
+      records = λ s n cap. stays_in_order g.E.Kind.says g.E.Kind.UNSETTLED s n cap here there (steps_of c.args.turns.now) end.0;
       guarantee = λ s n cap. goes_on g.E.Kind.says g.E.Kind.UNSETTLED s n cap here there (steps_of c.args.turns.now) end.0;
     }
