@@ -1,9 +1,9 @@
--- Counting, every, some and the first, over a list. Assumes nothing.
+-- Counting, every, some and the first, over a list.
 use Rattle.std.specs.Prelude.{◌≡◌, ℕ, ◌+◌, Bool, true, false, cond, ◌&&◌, ◌||◌, List, [], ◌∷◌, Some, None, Option}
 
 -- whatever a closure gives of a value is the test's answer
-abbrev pub Answers : {A : Type 0} → (A → Bool → Type 0) → (A → Bool) → Type 0
-Answers {A = A} gives test = (x : A) (r : Bool) → gives x r → r ≡ test x
+abbrev pub Computes : {A : Type 0} → (A → Bool → Type 0) → (A → Bool) → Type 0
+Computes {A = A} gives test = (x : A) (r : Bool) → gives x r → r ≡ test x
 
 module _ {A : Type 0} (test : A → Bool) where
   -- how many pass the test
