@@ -1,4 +1,4 @@
--- A block of a list written over, and its first element anew: every other block is as it was. Assumes nothing.
+-- A block of a list written over, and its first element anew: every other block is as it was.
 use Rattle.std.proofs.Common.{◌≡◌, ℕ, ◌+◌, ◌≤◌, List, ◌∷◌, ◌++◌, length, take, drop, set, ap, ◌∙◌, arith, rules}
 use borrow.Rule.Slice.PartMut.{put_mid}
 use Rattle.std.proofs.lemmas.List.{places, same_lists, length-take, length-drop, length-append, take_at, drop_at, drop-drop, set_at}

@@ -1,9 +1,9 @@
--- The seven parts of a strip, and what becomes of them where a slot of one is written. Assumes nothing.
+-- The seven parts of a strip, and what becomes of them where a slot of one is written.
 use Rattle.std.proofs.Common.{◌≡◌, ℕ, ◌+◌, ◌*◌, ◌/◌, ◌%◌, ◌<◌, ◌≤◌, ◌≢◌, List, map, length, get_or, take, drop, set, sym, ap, ◌∙◌, subst, ⊎_elim, mul-le-mul_right, arith}
 use Rattle.std.specs.List.{range_with_len}
 use Rattle.std.proofs.lemmas.List.{get_or-set_same, get_or-set_other, length-drop, length-take}
 use Rattle.std.proofs.lemmas.Bool.{cases_eq, cases_lt}
-use Rattle.cabinet.specs.declared.cells.Cell.{Cell}
+use Rattle.cabinet.specs.Cells.{Cell}
 use Rattle.cabinet.specs.Slots.{slots_in, filled, part_cell, PartForm, part_size, part, StripForm, Counted, next_slot}
 use Rattle.cabinet.proofs.Places.{counted_set}
 use Rattle.cabinet.proofs.Blocks.{over, over_length, over_over, block_here, block_before, block_after}

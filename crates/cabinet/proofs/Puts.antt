@@ -1,11 +1,10 @@
--- A put into a strip: the slot found for it, the form while it is written, and the cells after it. Assumes nothing.
+-- A put into a strip: the slot found for it, the form while it is written, and the cells after it.
 use Rattle.std.proofs.Common.{◌≡◌, ℕ, ◌+◌, ◌-◌, ◌<◌, ◌≤◌, Bool, true, false, cond, List, ◌∷◌, length, get_or, drop, set, Some, None, sym, refl, ap, ◌∙◌, subst, arith}
 use Rattle.std.specs.Bool.{Decides}
 use borrow.Rule.Slice.PartMut.{put_mid}
 use Rattle.numbers.specs.declared.rows.Row.{Row}
 use Rattle.numbers.specs.Rows.{row_ok}
-use Rattle.cabinet.specs.Cells.{is_worn, put_cells}
-use Rattle.cabinet.specs.declared.cells.Cell.{Cell}
+use Rattle.cabinet.specs.Cells.{Cell, is_worn, put_cells}
 use Rattle.cabinet.specs.Slots.{slot_bytes, with_slot, slots_in, filled, part_cell, part, StripForm, Counted, strip_cells, next_slot, put_bytes}
 use Rattle.cabinet.proofs.Blocks.{over, block_written, first_written}
 use Rattle.cabinet.proofs.Cuts.{written_form, written_cells, written_counted, written_counts}

@@ -5,8 +5,8 @@ ghost use Rattle.numbers.specs.Refusals.{refusal};
 ghost use Rattle.cabinet.specs.Cells.{fresh, cell_at, is_worn, put_cells};
 ghost use Rattle.cabinet.specs.Slots.{slots_in, filled, part, part_cell, PartForm, StripForm, Counted, next_slot, put_bytes};
 
-use crate::cells::Worn;
-use crate::meaning::Cabinet;
+use crate::cabinets::Cabinet;
+use crate::faults::Worn;
 use crate::parts::{filled_slots, is_in_form, last_record};
 use crate::slots::write_slot;
 use numbers::{CellRecord, Refusal};

@@ -2,8 +2,8 @@
 ghost use Rattle.std.specs.Prelude.{◌≡◌, length, map};
 ghost use Rattle.cabinet.specs.Cells.{AllKept, fresh, cell_at};
 
-use crate::cells::Worn;
-use crate::meaning::Cabinet;
+use crate::cabinets::Cabinet;
+use crate::faults::Worn;
 use numbers::{CellRecord, Row};
 
 #[derive(Drop)]
