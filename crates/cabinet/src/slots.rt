@@ -14,23 +14,30 @@ pub fn slot_of(new: CellRecord) -> [u8; 8]
     ensures bytes { result ≡ slot_bytes (row_of new) }
     ensures matched { OneToOne }
 {
-    let mut slot = [0; 8];
-    write_slot(&mut slot, 1, new.row());
+    let mut slot = [1; 8];
+    write_views(&mut slot[1..8], new.row());
     slot
 }
 
-/// Writes a slot with that first byte and these views, as two numbers of four bytes, which are two
-/// stores.
-pub fn write_slot(place: &mut [u8], first: u8, row: Row)
-    requires size { length place.old ≡ 8 }
+/// Writes the seven bytes of a filled slot that come after its first, in two stores of four bytes. The second begins
+/// with the last byte of the first.
+pub fn write_views(place: &mut [u8], row: Row)
+    requires size { length place.old ≡ 7 }
     requires kept { row_ok row ≡ true }
-    ensures { place.new ≡ first ∷ drop 1 (slot_bytes row) }
+    ensures { place.new ≡ drop 1 (slot_bytes row) }
 {
-    write_four(
-        &mut place[0..4],
-        first as u32 * 0x100_0000 + in_three(row.current),
-    );
-    write_four(&mut place[4..8], in_three(row.promised) * 256);
+    write_view(&mut place[0..4], row.current);
+    write_view(&mut place[3..7], row.promised);
+}
+
+// Writes a view as three bytes, and a 0 after them: its count, highest byte first, and its controller.
+fn write_view(place: &mut [u8], view: View)
+    requires size { length place.old ≡ 4 }
+    requires range { view_ok view ≡ true }
+    ensures { place.new ≡ view.count.number / 256 ∷ view.count.number % 256 ∷ view.controller.number ∷ 0 ∷ [] }
+{
+    let number = view.count.number as u32 * 65_536 + view.controller.number as u32 * 256;
+    *place.as_mut_array().unwrap() = number.to_be_bytes();
 }
 
 /// The record of a filled slot; refused where the bytes are not eight or are no filled slot.
@@ -43,22 +50,6 @@ pub fn read_slot(slot: &[u8]) -> Result<CellRecord, Refusal>
     let current = view_in(a, b, c);
     let promised = view_in(d, e, f);
     CellRecord::try_from(Row { current, promised })
-}
-
-// The number of three bytes that a view is: two for its count, and its controller.
-fn in_three(view: View) -> u32
-    requires { view_ok view ≡ true }
-    ensures { result ≡ view.count.number * 256 + view.controller.number }
-{
-    view.count.number as u32 * 256 + view.controller.number as u32
-}
-
-// Writes a number as four bytes, highest first.
-fn write_four(place: &mut [u8], number: u32)
-    requires { length place.old ≡ 4 }
-    ensures { place.new ≡ number / 16777216 ∷ number / 65536 % 256 ∷ number / 256 % 256 ∷ number % 256 ∷ [] }
-{
-    *place.as_mut_array().unwrap() = number.to_be_bytes();
 }
 
 // The view of a count in two bytes, highest first, and a controller.

@@ -8,7 +8,7 @@ ghost use Rattle.cabinet.specs.Slots.{slots_in, filled, part, part_cell, PartFor
 use crate::cabinets::Cabinet;
 use crate::faults::Worn;
 use crate::parts::{filled_slots, is_in_form, last_record};
-use crate::slots::write_slot;
+use crate::slots::write_views;
 use numbers::{CellRecord, Refusal};
 use std::array::from_fn;
 
@@ -151,8 +151,8 @@ impl<'a> Cabinet for Strip<'a> {
         self.first_empty(cell).is_none()
     }
 
-    // Fills the first empty slot of the cell's part; every other byte stays. All of it is written
-    // with a first byte of 0, and then that byte: until then the slot is empty.
+    // Fills the first empty slot of the cell's part; every other byte stays. Until its first byte is written, after
+    // the seven that are lent, the slot is empty.
     fn put(&mut self, cell: u16, new: CellRecord) -> Result<(), Worn>
         ensures result { result ≡ (if is_worn (cells_in self.old) cell then Err (record { cell = cell }) else Ok tt) }
         ensures after { cells_in self.new ≡ put_cells (cells_in self.old) cell (row_of new) }
@@ -163,7 +163,7 @@ impl<'a> Cabinet for Strip<'a> {
         let Some(at) = self.first_empty(cell) else {
             return Err(Worn { cell });
         };
-        write_slot(&mut self.bytes[at..at + 8], 0, new.row());
+        write_views(&mut self.bytes[at + 1..at + 8], new.row());
         self.bytes[at] = 1;
         self.counts[cell as usize] += 1;
         Ok(())
