@@ -2,26 +2,26 @@
 use Rattle.std.specs.Prelude.{◌≡◌, ℕ, ◌+◌, ◌-◌, ◌*◌, ◌/◌, ◌%◌, ◌<◌, ◌≤◌, Bool, true, false, if◌then◌else◌, not, ◌&&◌, List, [], ◌∷◌, ◌++◌, map, length, take, drop, ◌==◌, slice_index}
 use Rattle.std.specs.List.{prefix_len, range_with_len}
 use Rattle.numbers.specs.declared.rows.Row.{Row}
+use Rattle.numbers.specs.declared.views.View.{View}
 use Rattle.numbers.specs.Rows.{row_ok, zero_row}
 use Rattle.numbers.specs.Views.{view_of}
 use Rattle.cabinet.specs.Cells.{Cell, fresh, is_worn}
 
--- a filled slot: 1, the current view, the promised view, 0; a view is its count, highest byte first, and its controller
+-- a view: its count, highest byte first, and its controller
+abbrev pub view_bytes : View → List ℕ
+view_bytes v = v.count.number / 256 ∷ v.count.number % 256 ∷ v.controller.number ∷ []
+
+-- a filled slot: 1, the current view, the promised view, 0
 abbrev pub slot_bytes : Row → List ℕ
-slot_bytes w =
-    1
-    ∷ w.current.count.number / 256
-    ∷ w.current.count.number % 256
-    ∷ w.current.controller.number
-    ∷ w.promised.count.number / 256
-    ∷ w.promised.count.number % 256
-    ∷ w.promised.controller.number
-    ∷ 0
-    ∷ []
+slot_bytes w = 1 ∷ (view_bytes w.current ++ (view_bytes w.promised ++ 0 ∷ []))
+
+-- the view that three bytes are read as, from byte k on
+abbrev pub view_at : List ℕ → ℕ → View
+view_at s k = view_of (slice_index s k * 256 + slice_index s (k + 1)) (slice_index s (k + 2))
 
 -- the row that eight bytes are read as
 abbrev pub row_in : List ℕ → Row
-row_in s = record { current = view_of (slice_index s 1 * 256 + slice_index s 2) (slice_index s 3); promised = view_of (slice_index s 4 * 256 + slice_index s 5) (slice_index s 6) }
+row_in s = record { current = view_at s 1; promised = view_at s 4 }
 
 -- whether eight bytes are a filled slot
 abbrev pub slot_ok : List ℕ → Bool

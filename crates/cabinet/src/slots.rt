@@ -1,15 +1,14 @@
 //! One slot of a strip: a cell record as eight bytes, and back.
-ghost use Rattle.std.specs.Prelude.{◌≡◌, ◌+◌, ◌*◌, ◌/◌, ◌%◌, true, false, [], ◌∷◌, length, drop, MatchResult};
+ghost use Rattle.std.specs.Prelude.{◌≡◌, ◌+◌, ◌*◌, ◌++◌, true, false, [], ◌∷◌, length, drop, MatchResult};
 ghost use Rattle.numbers.specs.Records.{row_of};
 ghost use Rattle.numbers.specs.Refusals.{refusal};
 ghost use Rattle.numbers.specs.Rows.{row_ok};
 ghost use Rattle.numbers.specs.Views.{view_of, view_ok};
-ghost use Rattle.cabinet.specs.Slots.{slot_bytes, slot_ok, row_in, OneToOne};
+ghost use Rattle.cabinet.specs.Slots.{slot_bytes, view_bytes, slot_ok, row_in, OneToOne};
 
 use numbers::{CellRecord, Refusal, Row, View};
 
-/// The bytes of the filled slot with this record. Filled slots and records match one to one. Two
-/// functions, and no `From` and `TryFrom`, which only the crate of the record could write.
+/// The bytes of the filled slot with this record. Filled slots and records match one to one.
 pub fn slot_of(new: CellRecord) -> [u8; 8]
     ensures bytes { result ≡ slot_bytes (row_of new) }
     ensures matched { OneToOne }
@@ -21,23 +20,23 @@ pub fn slot_of(new: CellRecord) -> [u8; 8]
 
 /// Writes the seven bytes of a filled slot that come after its first, in two stores of four bytes. The second begins
 /// with the last byte of the first.
-pub fn write_views(place: &mut [u8], row: Row)
-    requires size { length place.old ≡ 7 }
+pub fn write_views(memory: &mut [u8], row: Row)
+    requires size { length memory.old ≡ 7 }
     requires kept { row_ok row ≡ true }
-    ensures { place.new ≡ drop 1 (slot_bytes row) }
+    ensures { memory.new ≡ drop 1 (slot_bytes row) }
 {
-    write_view(&mut place[0..4], row.current);
-    write_view(&mut place[3..7], row.promised);
+    write_view(&mut memory[0..4], row.current);
+    write_view(&mut memory[3..7], row.promised);
 }
 
 // Writes a view as three bytes, and a 0 after them: its count, highest byte first, and its controller.
-fn write_view(place: &mut [u8], view: View)
-    requires size { length place.old ≡ 4 }
+fn write_view(memory: &mut [u8], view: View)
+    requires size { length memory.old ≡ 4 }
     requires range { view_ok view ≡ true }
-    ensures { place.new ≡ view.count.number / 256 ∷ view.count.number % 256 ∷ view.controller.number ∷ 0 ∷ [] }
+    ensures { memory.new ≡ view_bytes view ++ 0 ∷ [] }
 {
     let number = view.count.number as u32 * 65_536 + view.controller.number as u32 * 256;
-    *place.as_mut_array().unwrap() = number.to_be_bytes();
+    *memory.as_mut_array().unwrap() = number.to_be_bytes();
 }
 
 /// The record of a filled slot; refused where the bytes are not eight or are no filled slot.

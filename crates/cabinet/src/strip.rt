@@ -12,6 +12,8 @@ use crate::slots::write_views;
 use numbers::{CellRecord, Refusal};
 use std::array::from_fn;
 
+/// A cabinet in bytes that the caller lends: seven equal parts, one a cell, each of slots of eight bytes. A put fills the
+/// first empty slot of its cell's part, and the writes left are the empty slots.
 #[derive(Drop)]
 pub struct Strip<'a> {
     bytes: &'a mut [u8],
@@ -38,14 +40,16 @@ impl<'a> Strip<'a> {
         }
     }
 
-    /// The strip of these bytes, unchanged; where they are not in form, all its cells are worn.
+    /// The strip of these bytes, unchanged; where they are not in form, all its cells are worn. The bytes are only read
+    /// while the strip is made: they are lent for reading from first to last.
     pub fn new(bytes: &'a mut [u8]) -> Strip<'a>
         ensures kept { bytes_in result ≡ bytes.old }
         ensures lent { result.bytes.ghost_name ≡ bytes.entry.ghost_name }
         ensures tells { Decides result.sound (StripForm bytes.old) }
     {
-        let counts = filled_counts(bytes);
-        let sound = bytes_are_in_form(bytes, &counts);
+        let read = &*bytes;
+        let counts = filled_counts(read);
+        let sound = bytes_are_in_form(read, &counts);
         Strip {
             bytes,
             sound,

@@ -6,6 +6,7 @@ use crate::cabinets::Cabinet;
 use crate::faults::Worn;
 use numbers::{CellRecord, Row};
 
+/// A cabinet in memory that a battery keeps: a row for each cell, in form, and how many writes it has left.
 #[derive(Drop)]
 pub struct Tray {
     rows: [Row; 7],
