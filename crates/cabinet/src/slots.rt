@@ -1,10 +1,10 @@
 //! One slot of a strip: a cell record as eight bytes, and back.
-ghost use Rattle.std.specs.Prelude.{◌≡◌, ◌+◌, ◌*◌, ◌++◌, true, false, [], ◌∷◌, length, drop, MatchResult};
+ghost use Rattle.std.specs.Prelude.{◌≡◌, ◌+◌, ◌*◌, ◌/◌, ◌%◌, true, false, [], ◌∷◌, length, drop, MatchResult};
 ghost use Rattle.numbers.specs.Records.{row_of};
 ghost use Rattle.numbers.specs.Refusals.{refusal};
 ghost use Rattle.numbers.specs.Rows.{row_ok};
 ghost use Rattle.numbers.specs.Views.{view_of, view_ok};
-ghost use Rattle.cabinet.specs.Slots.{slot_bytes, view_bytes, slot_ok, row_in, OneToOne};
+ghost use Rattle.cabinet.specs.Slots.{slot_bytes, slot_ok, row_in, OneToOne};
 
 use numbers::{CellRecord, Refusal, Row, View};
 
@@ -25,18 +25,8 @@ pub fn write_views(memory: &mut [u8], row: Row)
     requires kept { row_ok row ≡ true }
     ensures { memory.new ≡ drop 1 (slot_bytes row) }
 {
-    write_view(&mut memory[0..4], row.current);
-    write_view(&mut memory[3..7], row.promised);
-}
-
-// Writes a view as three bytes, and a 0 after them: its count, highest byte first, and its controller.
-fn write_view(memory: &mut [u8], view: View)
-    requires size { length memory.old ≡ 4 }
-    requires range { view_ok view ≡ true }
-    ensures { memory.new ≡ view_bytes view ++ 0 ∷ [] }
-{
-    let number = view.count.number as u32 * 65_536 + view.controller.number as u32 * 256;
-    *memory.as_mut_array().unwrap() = number.to_be_bytes();
+    write_four(&mut memory[0..4], in_three(row.current) * 256);
+    write_four(&mut memory[3..7], in_three(row.promised) * 256);
 }
 
 /// The record of a filled slot; refused where the bytes are not eight or are no filled slot.
@@ -49,6 +39,22 @@ pub fn read_slot(slot: &[u8]) -> Result<CellRecord, Refusal>
     let current = view_in(a, b, c);
     let promised = view_in(d, e, f);
     CellRecord::try_from(Row { current, promised })
+}
+
+// The number of three bytes that a view is: two for its count, and its controller.
+fn in_three(view: View) -> u32
+    requires { view_ok view ≡ true }
+    ensures { result ≡ view.count.number * 256 + view.controller.number }
+{
+    view.count.number as u32 * 256 + view.controller.number as u32
+}
+
+// Writes a number as four bytes, highest first.
+fn write_four(memory: &mut [u8], number: u32)
+    requires { length memory.old ≡ 4 }
+    ensures { memory.new ≡ number / 16777216 ∷ number / 65536 % 256 ∷ number / 256 % 256 ∷ number % 256 ∷ [] }
+{
+    *memory.as_mut_array().unwrap() = number.to_be_bytes();
 }
 
 // The view of a count in two bytes, highest first, and a controller.
