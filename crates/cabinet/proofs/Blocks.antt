@@ -1,5 +1,5 @@
--- A block of a list written over, and its first element anew: every other block is as it was. Assumes nothing.
-use Rattle.std.proofs.Common.{◌≡◌, ℕ, ◌+◌, ◌≤◌, List, ◌∷◌, ◌++◌, length, take, drop, set, ap, ◌∙◌, arith, rules}
+-- A block of a list written over, and its first element anew: every other block is as it was.
+use Rattle.std.proofs.Common.{◌≡◌, ℕ, ◌+◌, ◌≤◌, List, ◌∷◌, ◌++◌, length, get_or, take, drop, set, ap, ◌∙◌, arith, rules}
 use borrow.Rule.Slice.PartMut.{put_mid}
 use Rattle.std.proofs.lemmas.List.{places, same_lists, length-take, length-drop, length-append, take_at, drop_at, drop-drop, set_at}
 
@@ -28,6 +28,10 @@ over_over xs a s i m ys whole room long = same_lists _ _ (search (rules, places)
 module _ {A : Type 0} (xs : List A) (i m : ℕ) (ys : List A) where
   pub block_written : put_mid i m xs ys ≡ over xs i m ys
   block_written = ap (λ z. take i xs ++ (ys ++ z)) (drop-drop m i xs)
+
+  -- a block is the longer one that begins an element before it, if that element is as it was
+  pub block_longer : (d : A) → i + 1 + m ≤ length xs → length ys ≡ m → over xs (i + 1) m ys ≡ over xs i (m + 1) (get_or xs i d ∷ ys)
+  block_longer d room long = same_lists _ _ (search (rules, places)) (λ k e l. grind (arith, places))
 
   pub first_written : i ≤ length xs → (d y : A) → set (over xs i m (d ∷ ys)) i y ≡ over xs i m (y ∷ ys)
   first_written h d y = set_at (take i xs) d (ys ++ drop (i + m) xs) y i (simp length-take (omega arith))

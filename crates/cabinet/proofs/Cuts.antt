@@ -1,11 +1,12 @@
--- The seven parts of a strip, and what becomes of them where a slot of one is written. Assumes nothing.
+-- The seven parts of a strip, and what becomes of them where a slot of one is written.
 use Rattle.std.proofs.Common.{◌≡◌, ℕ, ◌+◌, ◌*◌, ◌/◌, ◌%◌, ◌<◌, ◌≤◌, ◌≢◌, List, map, length, get_or, take, drop, set, sym, ap, ◌∙◌, subst, ⊎_elim, mul-le-mul_right, arith}
 use Rattle.std.specs.List.{range_with_len}
-use Rattle.std.proofs.lemmas.List.{get_or-set_same, get_or-set_other, length-drop, length-take}
-use Rattle.std.proofs.lemmas.Bool.{cases_eq, cases_lt}
-use Rattle.cabinet.specs.declared.cells.Cell.{Cell}
+use Rattle.std.proofs.lemmas.List.{get_or-set_same, get_or-set_other, get_or-drop, get_or-take, length-drop, length-take}
+use Rattle.std.proofs.lemmas.Bool.{cases_eq, cases_lt, eqb-true, not-false}
+use Rattle.cabinet.specs.Cells.{Cell}
 use Rattle.cabinet.specs.Slots.{slots_in, filled, part_cell, PartForm, part_size, part, StripForm, Counted, next_slot}
 use Rattle.cabinet.proofs.Places.{counted_set}
+use Rattle.cabinet.proofs.Search.{filled_stop}
 use Rattle.cabinet.proofs.Blocks.{over, over_length, over_over, block_here, block_before, block_after}
 
 -- a part begins no earlier than the one before it ends
@@ -32,6 +33,16 @@ module _ (bs p : List ℕ) (c : ℕ) (mine : p ≡ part bs c) (lt : c < 7) where
 
   pub slice_next : (n : ℕ) → n ≡ filled p → c * length p + 8 * n ≡ next_slot bs c
   slice_next n e = omega (arith, slice_size, ap filled mine)
+
+-- the first empty slot of part c begins with 0
+pub empty_slot : (bs : List ℕ) (c : ℕ) → c < 7 → filled (part bs c) < slots_in (part bs c) → (i : ℕ) → i ≡ next_slot bs c → get_or bs i 0 ≡ 0
+empty_slot bs c lt room i place =
+    let p = part bs c in
+    let n = filled p in
+    let inside : 8 * n < part_size bs = omega (arith, part_length bs c lt) in
+    let first : get_or p (8 * n) 0 ≡ 0 = eqb-true _ _ (not-false _ (filled_stop p room)) in
+    let here : get_or p (8 * n) 0 ≡ get_or bs (c * part_size bs + 8 * n) 0 = get_or-take (part_size bs) (drop (c * part_size bs) bs) (8 * n) 0 inside ∙ get_or-drop (c * part_size bs) bs (8 * n) 0 in
+    ap (λ k. get_or bs k 0) place ∙ sym here ∙ first
 
 -- slot n of part c written
 module _ (bs : List ℕ) (c n : ℕ) (s : List ℕ) (lt : c < 7) (room : n < slots_in (part bs c)) (long : length s ≡ 8) where

@@ -1,4 +1,4 @@
--- A part whose first empty slot is written: left empty it keeps its form, and filled it holds the new record and has one empty slot fewer. Assumes nothing.
+-- A part whose first empty slot is written: left empty it keeps its form, and filled it holds the new record and has one empty slot fewer.
 use Rattle.std.proofs.Common.{◌≡◌, ℕ, ◌+◌, ◌-◌, ◌*◌, ◌/◌, ◌<◌, true, false, not, eqb, ◌≢◌, List, length, get_or, take, drop, sym, refl, ap, ◌∙◌, ⊎_elim, arith, rules, below_more}
 use Rattle.std.proofs.lemmas.List.{get_or-drop, get_or-take}
 use Rattle.std.proofs.lemmas.Bool.{cases_eq, cases_lt, cond-false, ne_eqb}

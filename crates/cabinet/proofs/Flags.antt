@@ -1,4 +1,4 @@
--- A flag that decides a fact, by what it says each way. Assumes nothing.
+-- A flag that decides a fact, by what it says each way.
 use Rattle.std.proofs.Common.{◌≡◌, Bool, true, false, refl}
 use Rattle.std.specs.Bool.{Decides}
 

@@ -1,4 +1,4 @@
--- A part that is cut after its filled slots: its form, by that of the two pieces. Assumes nothing.
+-- A part that is cut after its filled slots: its form, by that of the two pieces.
 use Rattle.std.proofs.Common.{◌≡◌, ℕ, ◌+◌, ◌-◌, ◌*◌, ◌<◌, ◌≤◌, not, eqb, List, length, get_or, take, drop, sym, ap, ◌∙◌, arith}
 use Rattle.std.proofs.lemmas.List.{drop-take, get_or-drop, length-drop, length-take, take-take}
 use Rattle.cabinet.specs.Slots.{slot_ok, slots_in, slot_at, is_filled, filled, AllInForm, AllEmpty, PartForm}

@@ -1,12 +1,11 @@
--- The cells of a tray, one by one, and its rows, which stay in form. Assumes nothing.
+-- The cells of a tray, one by one, and its rows, which stay in form.
 use Rattle.std.proofs.Common.{◌≡◌, ℕ, ◌-◌, ◌<◌, ◌≤◌, ◌≢◌, zero, suc, true, false, List, [], ◌∷◌, length, get_or, set, ap, ◌∙◌, sym, ⊎_elim, arith}
 use Rattle.std.proofs.lemmas.List.FromFn.{get_or-map-range_with_len}
 use Rattle.std.proofs.lemmas.List.{get_or-set_same, get_or-set_other, get_or_past}
 use Rattle.std.proofs.lemmas.Bool.{cases_lt, cond-false, ne_eqb}
 use Rattle.numbers.specs.declared.rows.Row.{Row}
 use Rattle.numbers.specs.Rows.{row_ok, zero_row}
-use Rattle.cabinet.specs.declared.cells.Cell.{Cell}
-use Rattle.cabinet.specs.Cells.{AllKept, cell_at, fresh, is_worn, put_cells}
+use Rattle.cabinet.specs.Cells.{Cell, AllKept, cell_at, fresh, is_worn, put_cells}
 use Rattle.cabinet.specs.Trays.{cells_of}
 use Rattle.cabinet.proofs.Places.{counted_set}
 

@@ -1,4 +1,4 @@
--- The number of filled slots of a part: what it says, and that no other number says it. Assumes nothing.
+-- The number of filled slots of a part: what it says, and that no other number says it.
 use Rattle.std.proofs.Common.{◌≡◌, ℕ, ◌<◌, ◌≤◌, true, false, List, length, get_or, sym, ap, ◌∙◌, arith}
 use Rattle.std.specs.List.{range_with_len}
 use Rattle.std.proofs.lemmas.List.FromFn.{length-range_with_len, get_or-range_with_len}

@@ -1,15 +1,14 @@
--- The cells of a strip, one by one. Assumes nothing.
+-- The cells of a strip, one by one.
 use Rattle.std.proofs.Common.{◌≡◌, ℕ, ◌-◌, ◌<◌, Bool, true, false, eqb, List, ap, ◌∙◌, arith}
 use Rattle.std.proofs.lemmas.List.FromFn.{get_or-map-range_with_len}
 use Rattle.std.proofs.lemmas.Bool.{ne_eqb}
-use Rattle.cabinet.specs.declared.cells.Cell.{Cell}
-use Rattle.cabinet.specs.Cells.{cell_at, fresh}
+use Rattle.cabinet.specs.Cells.{Cell, cell_at, fresh}
 use Rattle.cabinet.specs.Slots.{slots_in, filled, part_cell, part, strip_cells}
 
 -- a cell of a strip in form
 pub cell_sound : (flag : Bool) (bs : List ℕ) (c : ℕ) → flag ≡ true → c < 7 → cell_at (strip_cells flag bs) c ≡ part_cell (part bs c)
 cell_sound true bs c e h = get_or-map-range_with_len (λ d. part_cell (part bs d)) 0 7 c c (fresh 0) h (omega arith)
-cell_sound false bs c e h = search e
+cell_sound false bs c e h = cc
 
 -- a cell with an empty slot is not worn
 pub not_worn : (x : Cell) (p : List ℕ) → x ≡ part_cell p → filled p < slots_in p → eqb x.left 0 ≡ false

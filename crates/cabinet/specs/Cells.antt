@@ -1,8 +1,12 @@
--- The meaning of a cabinet: seven cells, each with a row and the writes left. Assumes nothing.
-use Rattle.std.specs.Prelude.{◌≡◌, ℕ, ◌-◌, Bool, true, cond, List, length, ◌==◌, slice_index_or, slice_set}
+-- The meaning of a cabinet: seven cells, each with a row and the writes left.
+use Rattle.std.specs.Prelude.{◌≡◌, ℕ, ◌-◌, Bool, true, if◌then◌else◌, List, length, ◌==◌, slice_index_or, slice_set}
 use Rattle.numbers.specs.declared.rows.Row.{Row}
 use Rattle.numbers.specs.Rows.{row_ok, zero_row}
-use Rattle.cabinet.specs.declared.cells.Cell.{Cell}
+
+-- a cell: its row, and the writes left
+pub record Cell : Type 0 where
+  pub row : Row
+  pub left : ℕ
 
 -- the cells of a cabinet: seven, numbered from 0
 pub record Seven : Type 0 where
@@ -22,7 +26,7 @@ is_worn cs i = (cell_at cs i).left == 0
 
 -- the cells after a put of w into cell i: without writes left the same; else that cell holds w and has one write fewer, and the others stay
 abbrev pub put_cells : List Cell → ℕ → Row → List Cell
-put_cells cs i w = cond (is_worn cs i) cs (slice_set cs i (record { row = w; left = (cell_at cs i).left - 1 }))
+put_cells cs i w = if is_worn cs i then cs else slice_set cs i (record { row = w; left = (cell_at cs i).left - 1 })
 
 -- every row keeps the form of a cell record
 abbrev pub AllKept : List Row → Type 0

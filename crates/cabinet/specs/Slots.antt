@@ -1,28 +1,27 @@
--- The bytes of a strip: slots of eight bytes, in seven equal parts. Assumes nothing.
-use Rattle.std.specs.Prelude.{◌≡◌, ℕ, ◌+◌, ◌-◌, ◌*◌, ◌/◌, ◌%◌, ◌<◌, ◌≤◌, Bool, true, false, cond, not, ◌&&◌, List, [], ◌∷◌, ◌++◌, map, length, take, drop, replicate, ◌==◌, slice_index}
+-- The bytes of a strip: slots of eight bytes, in seven equal parts.
+use Rattle.std.specs.Prelude.{◌≡◌, ℕ, ◌+◌, ◌-◌, ◌*◌, ◌/◌, ◌%◌, ◌<◌, ◌≤◌, Bool, true, false, if◌then◌else◌, not, ◌&&◌, List, [], ◌∷◌, ◌++◌, map, length, take, drop, ◌==◌, slice_index}
 use Rattle.std.specs.List.{prefix_len, range_with_len}
 use Rattle.numbers.specs.declared.rows.Row.{Row}
+use Rattle.numbers.specs.declared.views.View.{View}
 use Rattle.numbers.specs.Rows.{row_ok, zero_row}
 use Rattle.numbers.specs.Views.{view_of}
-use Rattle.cabinet.specs.declared.cells.Cell.{Cell}
-use Rattle.cabinet.specs.Cells.{fresh, is_worn}
+use Rattle.cabinet.specs.Cells.{Cell, fresh, is_worn}
 
--- a filled slot: 1, the current view, the promised view, 0; a view is its count, highest byte first, and its controller
+-- a view: its count, highest byte first, and its controller
+abbrev pub view_bytes : View → List ℕ
+view_bytes v = v.count.number / 256 ∷ v.count.number % 256 ∷ v.controller.number ∷ []
+
+-- a filled slot: 1, the current view, the promised view, 0
 abbrev pub slot_bytes : Row → List ℕ
-slot_bytes w =
-    1
-    ∷ w.current.count.number / 256
-    ∷ w.current.count.number % 256
-    ∷ w.current.controller.number
-    ∷ w.promised.count.number / 256
-    ∷ w.promised.count.number % 256
-    ∷ w.promised.controller.number
-    ∷ 0
-    ∷ []
+slot_bytes w = 1 ∷ (view_bytes w.current ++ (view_bytes w.promised ++ 0 ∷ []))
+
+-- the view that three bytes are read as, from byte k on
+abbrev pub view_at : List ℕ → ℕ → View
+view_at s k = view_of (slice_index s k * 256 + slice_index s (k + 1)) (slice_index s (k + 2))
 
 -- the row that eight bytes are read as
 abbrev pub row_in : List ℕ → Row
-row_in s = record { current = view_of (slice_index s 1 * 256 + slice_index s 2) (slice_index s 3); promised = view_of (slice_index s 4 * 256 + slice_index s 5) (slice_index s 6) }
+row_in s = record { current = view_at s 1; promised = view_at s 4 }
 
 -- whether eight bytes are a filled slot
 abbrev pub slot_ok : List ℕ → Bool
@@ -50,7 +49,7 @@ filled p = prefix_len (is_filled p) (range_with_len 0 (slots_in p))
 
 -- the record is that of the last filled slot, or twice (0, 0); the writes left are the empty slots
 abbrev pub part_cell : List ℕ → Cell
-part_cell p = record { row = cond (filled p == 0) zero_row (row_in (slot_at p (filled p - 1))); left = slots_in p - filled p }
+part_cell p = record { row = if filled p == 0 then zero_row else row_in (slot_at p (filled p - 1)); left = slots_in p - filled p }
 
 -- every slot is filled and in form
 abbrev pub AllInForm : List ℕ → Type 0
@@ -83,10 +82,13 @@ pub record StripForm (bs : List ℕ) : Type 0 where
 abbrev pub Counted : List ℕ → List ℕ → Type 0
 Counted ns bs = (c : ℕ) → c < 7 → slice_index ns c ≡ filled (part bs c)
 
--- the cells of a strip; where its bytes are not in form, every cell is worn at twice (0, 0)
+-- cell c of a strip; where its bytes are not in form, every cell is worn at twice (0, 0)
+abbrev pub strip_cell : Bool → List ℕ → ℕ → Cell
+strip_cell true bs c = part_cell (part bs c)
+strip_cell false bs c = fresh 0
+
 abbrev pub strip_cells : Bool → List ℕ → List Cell
-strip_cells true bs = map (λ c. part_cell (part bs c)) (range_with_len 0 7)
-strip_cells false bs = replicate 7 (fresh 0)
+strip_cells flag bs = map (strip_cell flag bs) (range_with_len 0 7)
 
 -- where the first empty slot of cell c begins
 abbrev pub next_slot : List ℕ → ℕ → ℕ
@@ -94,7 +96,7 @@ next_slot bs c = c * part_size bs + 8 * filled (part bs c)
 
 -- the bytes after a put of w into cell c: without writes left the same; else the first empty slot of its part is that of w, and every other byte stays
 abbrev pub put_bytes : Bool → List ℕ → ℕ → Row → List ℕ
-put_bytes flag bs c w = cond (is_worn (strip_cells flag bs) c) bs (with_slot bs (next_slot bs c) w)
+put_bytes flag bs c w = if is_worn (strip_cells flag bs) c then bs else with_slot bs (next_slot bs c) w
 
 -- filled slots and records match one to one: rows in form have different slots, and a slot is in form exactly if it is that of a row in form, the one that it is read as
 pub record OneToOne : Type 0 where

@@ -1,11 +1,10 @@
--- What a tray's cells are: a row and the writes left of each. Assumes nothing.
+-- What a tray's cells are: a row and the writes left of each.
 use Rattle.std.specs.Prelude.{ℕ, List, map, refl, slice_index_or}
 use Rattle.std.specs.List.{range_with_len}
 use Rattle.numbers.specs.Rows.{zero_row}
 use Rattle.numbers.specs.declared.rows.Row.{Row}
-use Rattle.cabinet.specs.declared.cells.Cell.{Cell}
+use Rattle.cabinet.specs.Cells.{Cell, Seven}
 use Rattle.cabinet.specs.declared.tray.Tray.{Tray}
-use Rattle.cabinet.specs.Cells.{Seven}
 
 -- seven cells, of a table of rows and one of the writes left
 abbrev pub cells_of : List Row → List ℕ → List Cell

@@ -8,29 +8,25 @@ ghost use Rattle.cabinet.specs.Slots.{slot_bytes, slot_ok, row_in, OneToOne};
 
 use numbers::{CellRecord, Refusal, Row, View};
 
-/// The bytes of the filled slot with this record. Filled slots and records match one to one. Two
-/// functions, and no `From` and `TryFrom`, which only the crate of the record could write.
+/// The bytes of the filled slot with this record. Filled slots and records match one to one.
 pub fn slot_of(new: CellRecord) -> [u8; 8]
     ensures bytes { result ≡ slot_bytes (row_of new) }
     ensures matched { OneToOne }
 {
-    let mut slot = [0; 8];
-    write_slot(&mut slot, 1, new.row());
+    let mut slot = [1; 8];
+    write_views(&mut slot[1..8], new.row());
     slot
 }
 
-/// Writes a slot with that first byte and these views, as two numbers of four bytes, which are two
-/// stores.
-pub fn write_slot(place: &mut [u8], first: u8, row: Row)
-    requires size { length place.old ≡ 8 }
+/// Writes the seven bytes of a filled slot that come after its first, in two stores of four bytes. The second begins
+/// with the last byte of the first.
+pub fn write_views(memory: &mut [u8], row: Row)
+    requires size { length memory.old ≡ 7 }
     requires kept { row_ok row ≡ true }
-    ensures { place.new ≡ first ∷ drop 1 (slot_bytes row) }
+    ensures { memory.new ≡ drop 1 (slot_bytes row) }
 {
-    write_four(
-        &mut place[0..4],
-        first as u32 * 0x100_0000 + in_three(row.current),
-    );
-    write_four(&mut place[4..8], in_three(row.promised) * 256);
+    write_four(&mut memory[0..4], in_three(row.current) * 256);
+    write_four(&mut memory[3..7], in_three(row.promised) * 256);
 }
 
 /// The record of a filled slot; refused where the bytes are not eight or are no filled slot.
@@ -54,11 +50,11 @@ fn in_three(view: View) -> u32
 }
 
 // Writes a number as four bytes, highest first.
-fn write_four(place: &mut [u8], number: u32)
-    requires { length place.old ≡ 4 }
-    ensures { place.new ≡ number / 16777216 ∷ number / 65536 % 256 ∷ number / 256 % 256 ∷ number % 256 ∷ [] }
+fn write_four(memory: &mut [u8], number: u32)
+    requires { length memory.old ≡ 4 }
+    ensures { memory.new ≡ number / 16777216 ∷ number / 65536 % 256 ∷ number / 256 % 256 ∷ number % 256 ∷ [] }
 {
-    *place.as_mut_array().unwrap() = number.to_be_bytes();
+    *memory.as_mut_array().unwrap() = number.to_be_bytes();
 }
 
 // The view of a count in two bytes, highest first, and a controller.

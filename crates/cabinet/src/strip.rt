@@ -5,13 +5,15 @@ ghost use Rattle.numbers.specs.Refusals.{refusal};
 ghost use Rattle.cabinet.specs.Cells.{fresh, cell_at, is_worn, put_cells};
 ghost use Rattle.cabinet.specs.Slots.{slots_in, filled, part, part_cell, PartForm, StripForm, Counted, next_slot, put_bytes};
 
-use crate::cells::Worn;
-use crate::meaning::Cabinet;
+use crate::cabinets::Cabinet;
+use crate::faults::Worn;
 use crate::parts::{filled_slots, is_in_form, last_record};
-use crate::slots::write_slot;
+use crate::slots::write_views;
 use numbers::{CellRecord, Refusal};
 use std::array::from_fn;
 
+/// A cabinet in bytes that the caller lends: seven equal parts, one a cell, each of slots of eight bytes. A put fills the
+/// first empty slot of its cell's part, and the writes left are the empty slots.
 #[derive(Drop)]
 pub struct Strip<'a> {
     bytes: &'a mut [u8],
@@ -38,14 +40,16 @@ impl<'a> Strip<'a> {
         }
     }
 
-    /// The strip of these bytes, unchanged; where they are not in form, all its cells are worn.
+    /// The strip of these bytes, unchanged; where they are not in form, all its cells are worn. The bytes are only read
+    /// while the strip is made: they are lent for reading from first to last.
     pub fn new(bytes: &'a mut [u8]) -> Strip<'a>
         ensures kept { bytes_in result ≡ bytes.old }
         ensures lent { result.bytes.ghost_name ≡ bytes.entry.ghost_name }
         ensures tells { Decides result.sound (StripForm bytes.old) }
     {
-        let counts = filled_counts(bytes);
-        let sound = bytes_are_in_form(bytes, &counts);
+        let read = &*bytes;
+        let counts = filled_counts(read);
+        let sound = bytes_are_in_form(read, &counts);
         Strip {
             bytes,
             sound,
@@ -151,8 +155,8 @@ impl<'a> Cabinet for Strip<'a> {
         self.first_empty(cell).is_none()
     }
 
-    // Fills the first empty slot of the cell's part; every other byte stays. All of it is written
-    // with a first byte of 0, and then that byte: until then the slot is empty.
+    // Fills the first empty slot of the cell's part; every other byte stays. Until its first byte is written, after
+    // the seven that are lent, the slot is empty.
     fn put(&mut self, cell: u16, new: CellRecord) -> Result<(), Worn>
         ensures result { result ≡ (if is_worn (cells_in self.old) cell then Err (record { cell = cell }) else Ok tt) }
         ensures after { cells_in self.new ≡ put_cells (cells_in self.old) cell (row_of new) }
@@ -163,7 +167,7 @@ impl<'a> Cabinet for Strip<'a> {
         let Some(at) = self.first_empty(cell) else {
             return Err(Worn { cell });
         };
-        write_slot(&mut self.bytes[at..at + 8], 0, new.row());
+        write_views(&mut self.bytes[at + 1..at + 8], new.row());
         self.bytes[at] = 1;
         self.counts[cell as usize] += 1;
         Ok(())

@@ -2,10 +2,11 @@
 ghost use Rattle.std.specs.Prelude.{◌≡◌, length, map};
 ghost use Rattle.cabinet.specs.Cells.{AllKept, fresh, cell_at};
 
-use crate::cells::Worn;
-use crate::meaning::Cabinet;
+use crate::cabinets::Cabinet;
+use crate::faults::Worn;
 use numbers::{CellRecord, Row};
 
+/// A cabinet in memory that a battery keeps: a row for each cell, in form, and how many writes it has left.
 #[derive(Drop)]
 pub struct Tray {
     rows: [Row; 7],

@@ -1,4 +1,4 @@
--- What the last entry of a book settles, and what is left to the entries before it. Assumes nothing.
+-- What the last entry of a book settles, and what is left to the entries before it.
 use Rattle.std.proofs.Common.{◌≡◌, ℕ, ◌⊎◌, List, [], ◌∷◌, ◌++◌, Some, None, Option, unwrap_or, sym, refl, ap, ◌∙◌, subst, inl, inr, arith}
 use Rattle.entries.specs.declared.book.Entry.{Entry}
 use Rattle.entries.specs.declared.kinds.Answer.{Answer}

@@ -1,4 +1,4 @@
--- The rule of lookup: the last entry that settles a question answers it. Assumes nothing.
+-- The rule of lookup: the last entry that settles a question answers it.
 use Rattle.std.specs.Prelude.{◌≡◌, ◌⊎◌, List, [], ◌∷◌, ◌++◌, Some, None, Option}
 use Rattle.std.specs.Option.{unwrap_or}
 use Rattle.entries.specs.declared.book.Entry.{Entry}

@@ -1,5 +1,5 @@
--- What the two kinds of change say to a question. Assumes nothing.
-use Rattle.std.specs.Prelude.{ℕ, ◌/◌, ◌%◌, ◌^◌, Bool, cond, ◌&&◌, Some, None, Option, ◌==◌, nat_le, nat_lt}
+-- What the two kinds of change say to a question.
+use Rattle.std.specs.Prelude.{ℕ, ◌/◌, ◌%◌, ◌^◌, Bool, if◌then◌else◌, ◌&&◌, Some, None, Option, ◌==◌, nat_le, nat_lt}
 use Rattle.entries.specs.declared.cards.CardChange.{CardChange}
 use Rattle.entries.specs.declared.hours.HoursChange.{HoursChange}
 use Rattle.entries.specs.declared.kinds.Answer.{Answer}
@@ -12,8 +12,8 @@ in_set doors d = nat_lt d 16 && doors / 2 ^ d % 2 == 1
 
 -- the question (card, door): green if given and red if withdrawn, provided the card is equal and the door in the set
 abbrev pub card_says : CardChange → Question → Option Answer
-card_says x q = cond (x.card == q.first && in_set x.doors q.second) (Some (cond x.given Green Red)) None
+card_says x q = if x.card == q.first && in_set x.doors q.second then Some (if x.given then Green else Red) else None
 
 -- the question (door, minute): at an equal door, green exactly if opening ≤ minute < shutting
 abbrev pub hours_says : HoursChange → Question → Option Answer
-hours_says x q = cond (x.door == q.first) (Some (cond (nat_le x.opening q.second && nat_lt q.second x.shutting) Green Red)) None
+hours_says x q = if x.door == q.first then Some (if nat_le x.opening q.second && nat_lt q.second x.shutting then Green else Red) else None

@@ -4,7 +4,7 @@ ghost use Rattle.entries.specs.declared.kinds.Answer.TheVariants.{Red};
 
 use crate::kinds::{Answer, Kind, Question};
 
-/// Bit d of `doors` is door d.
+/// A card given, or withdrawn, at a set of doors: bit d of `doors` is door d, from 0 to 15.
 #[derive(Clone, Copy, PartialEq, Eq, Debug)]
 pub struct CardChange {
     pub card: u16,

@@ -4,6 +4,7 @@ ghost use Rattle.entries.specs.declared.kinds.Answer.TheVariants.{Green};
 
 use crate::kinds::{Answer, Kind, Question};
 
+/// A door that is open from its opening minute up to its shutting minute, which is no longer open.
 #[derive(Clone, Copy, PartialEq, Eq, Debug)]
 pub struct HoursChange {
     pub door: u16,

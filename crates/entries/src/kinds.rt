@@ -17,15 +17,18 @@ pub struct Question {
     pub second: u16,
 }
 
+/// A kind of change. What its changes say, and its unsettled answer, are its whole meaning.
 pub trait Kind: Copy {
     // what a change says to a question, or nothing
     ghost says: { Self → Question → Option Answer };
 
-    // the answer to a question that no entry settles
+    // the constant of that name
     ghost UNSETTLED: { Answer };
 
+    /// The answer to a question that no entry settles.
     const UNSETTLED: Answer;
 
+    /// What this change says to a question: an answer, or none where the question does not concern it.
     fn say(&self, question: Question) -> Option<Answer>
         ensures { result ≡ says self.now question };
 }

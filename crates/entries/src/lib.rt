@@ -6,9 +6,11 @@ mod cards;
 mod hours;
 mod kinds;
 mod lookups;
+mod messages;
 
-pub use book::{Body, Entry, Message, Reply};
+pub use book::Entry;
 pub use cards::CardChange;
 pub use hours::HoursChange;
 pub use kinds::{Answer, Kind, Question};
 pub use lookups::lookup;
+pub use messages::{Body, Message, Reply};

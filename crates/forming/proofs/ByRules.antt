@@ -1,33 +1,22 @@
--- The choice is the one that the rules name, and is made where they allow one. Assumes nothing.
+-- The choice is the one that the rules name, and is made where they allow one.
 use Rattle.std.proofs.Common.{◌≡◌, ℕ, zero, suc, ◌≤◌, Bool, true, false, cond, ◌&&◌, ◌||◌, eqb, ltb, leb, List, [], ◌∷◌, get_or, Some, None, Option, sym, refl, ap, ◌∙◌, subst, inl, inr, arith}
-use Rattle.std.proofs.lemmas.Bool.{and_parts, and_from, or_parts, or_from, or_cases, cases_Bool, both_ways, false≢true, not-true, not_from_false, leb-true, le-leb, ltb-false, eqb-true, cases_lt}
+use Rattle.std.proofs.lemmas.Bool.{and_parts, and_from, or_parts, or_from, or_cases, cases_Bool, both_ways, false≢true, not-true, not_from_false, leb-true, le-leb, ltb-false, cases_lt}
 use Rattle.std.proofs.lemmas.Bool.Decides.{nat_tests}
 use Rattle.numbers.specs.declared.views.View.{View}
 use Rattle.numbers.specs.Majorities.{majority_of}
-use Rattle.numbers.specs.Views.{earlier, same_view, view_of}
-use Rattle.entries.specs.declared.book.Reply.{Reply}
-use Rattle.entries.specs.declared.book.Reply.TheVariants.{Normal, Crash}
-use Rattle.forming.specs.Counting.{count, every, some, first}
+use Rattle.numbers.specs.Views.{earlier, same_view}
+use Rattle.entries.specs.declared.messages.Reply.{Reply}
+use Rattle.entries.specs.declared.messages.Reply.TheVariants.{Normal, Crash}
+use Rattle.numbers.specs.Counting.{count, every, some, first}
 use Rattle.forming.specs.Rules.{answered, is_normal, beats, leads, crashed_in, crashed_before, crashed_until, answer_view, is_best, rule_1, rule_2, rule_3, some_rule, if_allowed, choice, AnswersNormally, AnswersCrashed, LatestNormal, Rule2, Rule3, Allowed, Chosen, ByRules}
-use Rattle.forming.proofs.Counted.{every_at, every_from, some_at, some_none, some_from, count_at, first_some, first_none, FirstAt, get_or_within}
+use Rattle.numbers.proofs.SameViews.{sooner, same_view_equal, same_view_self, views_level}
+use Rattle.numbers.proofs.Counted.{every_at, every_from, some_at, some_none, some_from, count_at, first_some, first_none, FirstAt, get_or_within}
 
--- The order of views, first as one of plain numbers
-
-abbrev sooner : ℕ → ℕ → ℕ → ℕ → Bool
-sooner a b c d = ltb a c || (eqb a c && ltb b d)
+-- An answer that another beats
 
 -- (c, d) with length m beats (a, b) with length l
 abbrev below : ℕ → ℕ → ℕ → ℕ → ℕ → ℕ → Bool
 below a b l c d m = sooner a b c d || ((eqb a c && eqb b d) && ltb l m)
-
-numbers_level : (a b c d : ℕ) → sooner a b c d ≡ false → sooner c d a b ≡ false → (eqb a c && eqb b d) ≡ true
-numbers_level a b c d p q = grind (arith, nat_tests)
-
-numbers_self : (a b : ℕ) → (eqb a a && eqb b b) ≡ true
-numbers_self a b = grind (arith, nat_tests)
-
-numbers_same : (a b c d : ℕ) → a ≡ c → b ≡ d → view_of a b ≡ view_of c d
-numbers_same a b c d p q = cc
 
 below_self : (a b l : ℕ) → below a b l a b l ≡ false
 below_self a b l = grind (arith, nat_tests)
@@ -35,33 +24,17 @@ below_self a b l = grind (arith, nat_tests)
 below_not : (a b l c d m e f k : ℕ) → below a b l c d m ≡ true → below e f k c d m ≡ false → below e f k a b l ≡ false
 below_not a b l c d m e f k p q = grind (arith, nat_tests)
 
-pub same_view_equal : (v w : View) → same_view v w ≡ true → v ≡ w
-same_view_equal v w h =
-    let parts : (eqb v.count.number w.count.number ≡ true) × (eqb v.controller.number w.controller.number ≡ true) = and_parts _ _ h in
-    numbers_same v.count.number v.controller.number w.count.number w.controller.number (eqb-true _ _ parts.0) (eqb-true _ _ parts.1)
-
-pub same_view_self : (v : View) → same_view v v ≡ true
-same_view_self v = numbers_self v.count.number v.controller.number
-
--- of two views, neither of them earlier: they are one
-pub views_level : (v w : View) → earlier v w ≡ false → earlier w v ≡ false → v ≡ w
-views_level v w p q = same_view_equal v w (numbers_level v.count.number v.controller.number w.count.number w.controller.number p q)
-
--- An answer that another beats
-
 pub beats_self : (u : View) (l : ℕ) (p : Bool) → beats u l (Some (Normal u l p)) ≡ false
 beats_self u l p = below_self u.count.number u.controller.number l
 
 pub beats_normal : (u : View) (l : ℕ) (o : Option Reply) → beats u l o ≡ true → is_normal o ≡ true
-beats_normal u l None h = h
 beats_normal u l (Some (Normal w m q)) h = refl
-beats_normal u l (Some (Crash w)) h = h
+beats_normal u l _ h = h
 
 -- what does not beat w, and beats u, shows that u does not beat w
 pub beats_not : (u : View) (l : ℕ) (p : Bool) (w : View) (m : ℕ) (o : Option Reply) → beats u l o ≡ true → beats w m o ≡ false → beats w m (Some (Normal u l p)) ≡ false
-beats_not u l p w m None h k = absurd (false≢true h)
 beats_not u l p w m (Some (Normal x i q)) h k = below_not u.count.number u.controller.number l x.count.number x.controller.number i w.count.number w.controller.number m h k
-beats_not u l p w m (Some (Crash x)) h k = absurd (false≢true h)
+beats_not u l p w m _ h k = absurd (false≢true h)
 
 -- answer c is normal, and none beats it
 pub record Unbeaten (answers : List (Option Reply)) (c : ℕ) : Type 0 where
@@ -77,8 +50,6 @@ further o xs c b h = record { view = b.view; length = b.length; primary = b.prim
 -- where some answer is normal, there is one that none beats
 pub unbeaten : (xs : List (Option Reply)) → some is_normal xs ≡ true → (c : ℕ) × Unbeaten xs c
 unbeaten [] h = absurd (false≢true h)
-unbeaten (None ∷ xs) h = let rest = unbeaten xs h in (suc rest.0, further None xs rest.0 rest.1 refl)
-unbeaten (Some (Crash u) ∷ xs) h = let rest = unbeaten xs h in (suc rest.0, further (Some (Crash u)) xs rest.0 rest.1 refl)
 unbeaten (Some (Normal u l p) ∷ xs) h =
     elim (cases_Bool (some (beats u l) xs)) [
       | inl e ↦
@@ -87,6 +58,7 @@ unbeaten (Some (Normal u l p) ∷ xs) h =
           (suc rest.0, further (Some (Normal u l p)) xs rest.0 rest.1 (beats_not u l p rest.1.view rest.1.length (get_or xs at.0 None) at.1.1 (some_none (beats rest.1.view rest.1.length) xs at.0 None rest.1.none_beats at.1.0))))
       | inr e ↦ (zero, record { view = u; length = l; primary = p; answers_so = refl; none_beats = or_from _ _ (beats_self u l p) e })
     ]
+unbeaten (o ∷ xs) h = let rest = unbeaten xs h in (suc rest.0, further o xs rest.0 rest.1 refl)
 
 module _ (answers : List (Option Reply)) where
   pub some_normal : (c : ℕ) (u : View) (l : ℕ) (p : Bool) → AnswersNormally answers c u l p → some is_normal answers ≡ true
@@ -103,9 +75,8 @@ module _ (answers : List (Option Reply)) where
   not_longer u l none d m q h = ltb-false l m (sym (ap (λ b. b && ltb l m) (same_view_self u)) ∙ (or_parts (earlier u u) (same_view u u && ltb l m) (not_beaten u l none d u m q h)).1)
 
   is_best_of : (c : ℕ) (o : Option Reply) → get_or answers c None ≡ o → is_best answers o ≡ true → Unbeaten answers c
-  is_best_of c None e h = absurd (false≢true h)
   is_best_of c (Some (Normal u l p)) e h = record { view = u; length = l; primary = p; answers_so = e; none_beats = not-true (some (beats u l) answers) h }
-  is_best_of c (Some (Crash u)) e h = absurd (false≢true h)
+  is_best_of c _ e h = absurd (false≢true h)
 
   pub best_unbeaten : (c : ℕ) → is_best answers (get_or answers c None) ≡ true → Unbeaten answers c
   best_unbeaten c h = is_best_of c (get_or answers c None) refl h
@@ -150,26 +121,22 @@ module _ (answers : List (Option Reply)) where
 
   module _ (x : View) where
     is_crash : (c : ℕ) (o : Option Reply) → get_or answers c None ≡ o → crashed_in x o ≡ true → AnswersCrashed answers c x
-    is_crash c None e h = absurd (false≢true h)
-    is_crash c (Some (Normal u l p)) e h = absurd (false≢true h)
     is_crash c (Some (Crash u)) e h = e ∙ ap (λ v. Some (Crash v)) (sym (same_view_equal x u h))
+    is_crash c _ e h = absurd (false≢true h)
 
     is_lead : (c : ℕ) (o : Option Reply) → get_or answers c None ≡ o → leads x o ≡ true → (l : ℕ) × AnswersNormally answers c x l true
-    is_lead c None e h = absurd (false≢true h)
     is_lead c (Some (Normal u l p)) e h =
         let parts = and_parts (same_view x u) p h in
         (l, e ∙ ap (λ v. Some (Normal v l p)) (sym (same_view_equal x u parts.0)) ∙ ap (λ q. Some (Normal x l q)) parts.1)
-    is_lead c (Some (Crash u)) e h = absurd (false≢true h)
+    is_lead c _ e h = absurd (false≢true h)
 
     before : ((d : ℕ) (u : View) → AnswersCrashed answers d u → earlier u x ≡ true) → (d : ℕ) (o : Option Reply) → get_or answers d None ≡ o → crashed_before x o ≡ true
-    before all d None e = refl
-    before all d (Some (Normal u l p)) e = refl
     before all d (Some (Crash u)) e = all d u e
+    before all d _ e = refl
 
     until : ((d : ℕ) (u : View) → AnswersCrashed answers d u → earlier x u ≡ false) → (d : ℕ) (o : Option Reply) → get_or answers d None ≡ o → crashed_until x o ≡ true
-    until all d None e = refl
-    until all d (Some (Normal u l p)) e = refl
     until all d (Some (Crash u)) e = not_from_false (earlier x u) (all d u e)
+    until all d _ e = refl
 
   rule_2_there : (r : Rule2 answers) → rule_2 answers r.newest ≡ true
   rule_2_there r = every_from (crashed_before r.newest) answers None (λ d lt. before r.newest r.crashes d (get_or answers d None) refl)

@@ -1,9 +1,9 @@
--- What the choice comes to, step by step. Assumes nothing.
+-- What the choice comes to, step by step.
 use Rattle.std.proofs.Common.{◌≡◌, ℕ, ◌≤◌, true, false, cond, leb, List, get_or, Some, None, Option, sym, ap, ◌∙◌, rules}
 use Rattle.numbers.specs.declared.views.View.{View}
 use Rattle.numbers.specs.Majorities.{majority_of}
-use Rattle.entries.specs.declared.book.Reply.{Reply}
-use Rattle.forming.specs.Counting.{count, first}
+use Rattle.entries.specs.declared.messages.Reply.{Reply}
+use Rattle.numbers.specs.Counting.{count, first}
 use Rattle.forming.specs.Rules.{answered, answer_view, is_best, some_rule, if_allowed, choice}
 
 module _ (answers : List (Option Reply)) (n c : ℕ) (v : View) (most : majority_of n ≤ count answered answers) (best : first (is_best answers) answers ≡ Some c) (there : v ≡ answer_view (get_or answers c None)) where

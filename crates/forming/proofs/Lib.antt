@@ -1,3 +1,2 @@
 pub mod ByRules
 pub mod Choosing
-pub mod Counted

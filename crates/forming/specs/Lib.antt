@@ -1,3 +1,1 @@
-pub mod Counting
-pub mod Members
 pub mod Rules

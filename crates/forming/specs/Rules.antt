@@ -1,66 +1,60 @@
--- The rules by which a manager forms a view, from the answers to its call. Assumes nothing.
-use Rattle.std.specs.Prelude.{◌≡◌, ℕ, ◌≤◌, Bool, true, false, cond, not, ◌&&◌, ◌||◌, ◌⊎◌, List, Some, None, Option, nat_le, nat_lt, slice_index_or}
+-- The rules by which a manager forms a view, from the answers to its call.
+use Rattle.std.specs.Prelude.{◌≡◌, ℕ, ◌≤◌, Bool, true, false, if◌then◌else◌, not, ◌&&◌, ◌||◌, ◌⊎◌, List, Some, None, Option, nat_le, nat_lt, slice_index_or}
 use Rattle.numbers.specs.declared.views.View.{View}
 use Rattle.numbers.specs.Majorities.{majority_of}
 use Rattle.numbers.specs.Views.{earlier, same_view, view_of}
-use Rattle.entries.specs.declared.book.Reply.{Reply}
-use Rattle.entries.specs.declared.book.Reply.TheVariants.{Normal, Crash}
-use Rattle.forming.specs.Counting.{count, every, some, first}
+use Rattle.entries.specs.declared.messages.Reply.{Reply}
+use Rattle.entries.specs.declared.messages.Reply.TheVariants.{Normal, Crash}
+use Rattle.numbers.specs.Counting.{count, every, some, first}
 
 -- Tests of one controller's answer, or none
 
 abbrev pub answered : Option Reply → Bool
 answered None = false
-answered (Some a) = true
+answered _ = true
 
 abbrev pub is_normal : Option Reply → Bool
-is_normal None = false
 is_normal (Some (Normal u l p)) = true
-is_normal (Some (Crash u)) = false
+is_normal _ = false
 
 -- a normal answer of a later view than x, or of x with a greater length than m
 abbrev pub beats : View → ℕ → Option Reply → Bool
-beats x m None = false
 beats x m (Some (Normal u l p)) = earlier x u || (same_view x u && nat_lt m l)
-beats x m (Some (Crash u)) = false
+beats x m _ = false
 
 -- a normal answer of view x that says primary
 abbrev pub leads : View → Option Reply → Bool
-leads x None = false
 leads x (Some (Normal u l p)) = same_view x u && p
-leads x (Some (Crash u)) = false
+leads x _ = false
 
 -- a crash answer of view x
 abbrev pub crashed_in : View → Option Reply → Bool
-crashed_in x None = false
-crashed_in x (Some (Normal u l p)) = false
 crashed_in x (Some (Crash u)) = same_view x u
+crashed_in x _ = false
 
 -- no crash answer of view x or a later one
 abbrev pub crashed_before : View → Option Reply → Bool
-crashed_before x None = true
-crashed_before x (Some (Normal u l p)) = true
 crashed_before x (Some (Crash u)) = earlier u x
+crashed_before x _ = true
 
 -- no crash answer of a later view than x
 abbrev pub crashed_until : View → Option Reply → Bool
-crashed_until x None = true
-crashed_until x (Some (Normal u l p)) = true
 crashed_until x (Some (Crash u)) = not (earlier x u)
+crashed_until x _ = true
 
+-- the current view that an answer gives
 abbrev pub answer_view : Option Reply → View
-answer_view None = view_of 0 0
 answer_view (Some (Normal u l p)) = u
 answer_view (Some (Crash u)) = u
+answer_view None = view_of 0 0
 
 -- The choice, computed from the answers of controllers 0, 1, ..
 
 module _ (answers : List (Option Reply)) where
   -- a normal answer that none beats: of the latest normal view, and in it of the greatest length
   abbrev pub is_best : Option Reply → Bool
-  is_best None = false
   is_best (Some (Normal u l p)) = not (some (beats u l) answers)
-  is_best (Some (Crash u)) = false
+  is_best _ = false
 
   abbrev pub rule_1 : ℕ → Bool
   rule_1 n = nat_le (majority_of n) (count is_normal answers)
@@ -77,11 +71,11 @@ module _ (answers : List (Option Reply)) where
 
   abbrev pub if_allowed : ℕ → Option ℕ → Option ℕ
   if_allowed n None = None
-  if_allowed n (Some c) = cond (some_rule n (answer_view (slice_index_or answers c None))) (Some c) None
+  if_allowed n (Some c) = if some_rule n (answer_view (slice_index_or answers c None)) then Some c else None
 
   -- the controller that becomes primary, or none where no rule allows the view
   abbrev pub choice : ℕ → Option ℕ
-  choice n = cond (nat_le (majority_of n) (count answered answers)) (if_allowed n (first is_best answers)) None
+  choice n = if nat_le (majority_of n) (count answered answers) then if_allowed n (first is_best answers) else None
 
 -- The rules in words
 

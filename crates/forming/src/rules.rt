@@ -1,14 +1,11 @@
-//! The rules by which a manager forms a view from the answers to its call. The answers, n and a view
-//! stay parameters, as the definitions take them: a struct of them would say no more.
+//! The rules by which a manager forms a view from the answers to its call.
 ghost use Rattle.std.specs.Prelude.{◌≡◌, ◌<◌, ◌≤◌, length, take, IfSome, nat_le};
 ghost use Rattle.numbers.specs.Majorities.{majority_of};
-ghost use Rattle.forming.specs.Counting.{count as count_of, every as every_of, some as some_of};
+ghost use Rattle.numbers.specs.Counting.{count as count_of, every as every_of, some as some_of};
 ghost use Rattle.forming.specs.Rules.{answered, beats as beats_it, is_best as best_of, answer_view, crashed_in, crashed_until, leads, rule_1 as rule_one, rule_2 as rule_two, rule_3 as rule_three, some_rule, choice as choice_of, ByRules};
 
-use crate::counting::{count, every, first, some};
-use crate::members::Member;
 use entries::Reply;
-use numbers::{View, majority};
+use numbers::{Member, View, count, every, first, majority, some};
 
 // A normal answer of a later view than this, or of this view with a greater length.
 fn beats(view: View, length: u16, answer: &Option<Reply>) -> bool
@@ -89,7 +86,7 @@ fn has_crashed(answers: &[Option<Reply>], view: View) -> bool
     })
 }
 
-// No crash answer is of a later view: the second rule's word with `<=`, and a definition of its own.
+// No crash answer is of a later view.
 fn crashed_by(answers: &[Option<Reply>], view: View) -> bool
     ensures { result ≡ every_of (crashed_until view) answers.now }
 {
@@ -99,7 +96,7 @@ fn crashed_by(answers: &[Option<Reply>], view: View) -> bool
     })
 }
 
-// The primary of the view answered normally: a word of the third rule, as `has_crashed` is.
+// The primary of the view answered normally.
 fn is_led(answers: &[Option<Reply>], view: View) -> bool
     ensures { result ≡ some_of (leads view) answers.now }
 {

@@ -1,4 +1,4 @@
--- A majority of n controllers. Assumes nothing.
+-- A majority of n controllers.
 use Rattle.std.specs.Prelude.{ℕ, ◌+◌, ◌/◌}
 
 abbrev pub majority_of : ℕ → ℕ

@@ -1,4 +1,4 @@
--- What a cell record holds. Assumes nothing.
+-- What a cell record holds.
 use Rattle.numbers.specs.declared.records.CellRecord.{CellRecord}
 use Rattle.numbers.specs.declared.rows.Row.{Row}
 

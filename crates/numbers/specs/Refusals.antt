@@ -1,5 +1,5 @@
--- The number of every refusal. Assumes nothing.
-use Rattle.std.specs.Prelude.{ℕ, ◌-◌, List, [], ◌∷◌, slice_index_or}
+-- The number of every refusal.
+use Rattle.std.specs.Prelude.{ℕ, ◌==◌, List, [], ◌∷◌, find, unwrap_or}
 use Rattle.numbers.specs.declared.refusals.Refusal.{Refusal}
 use Rattle.numbers.specs.declared.refusals.Refusal.TheVariants.{NotMade, NoSuchController, NoSuchMessage, BadMessage, WrongPower, WrongStatus, NotPrimary, WrongView, IncompleteBook, DoesNotFit, BookFull, NoRuleAllows, CountsSpent, PoolFull, CellWorn, CellsUsed, BadForm}
 
@@ -23,10 +23,10 @@ number_of CellWorn = 15
 number_of CellsUsed = 16
 number_of BadForm = 17
 
--- the refusals in the order of their numbers
+-- every refusal, in any order
 abbrev pub refusals : List Refusal
 refusals = NotMade ∷ NoSuchController ∷ NoSuchMessage ∷ BadMessage ∷ WrongPower ∷ WrongStatus ∷ NotPrimary ∷ WrongView ∷ IncompleteBook ∷ DoesNotFit ∷ BookFull ∷ NoRuleAllows ∷ CountsSpent ∷ PoolFull ∷ CellWorn ∷ CellsUsed ∷ BadForm ∷ []
 
--- the refusal of a number from 1 to 17, as contracts cite it
+-- the refusal that has the number q, as promises cite it; where none has, BadForm
 abbrev pub refusal : ℕ → Refusal
-refusal q = slice_index_or refusals (q - 1) BadForm
+refusal q = unwrap_or (find (λ r. number_of r == q) refusals) BadForm

@@ -1,4 +1,4 @@
--- The form of a cell record, as a row of two views. Assumes nothing.
+-- The form of a cell record, as a row of two views.
 use Rattle.std.specs.Prelude.{Bool, not, ◌&&◌}
 use Rattle.numbers.specs.declared.rows.Row.{Row}
 use Rattle.numbers.specs.Views.{view_of, view_ok, earlier}

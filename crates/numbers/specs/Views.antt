@@ -1,5 +1,5 @@
--- Numbers and views: their ranges, and the order of views. Assumes nothing.
-use Rattle.std.specs.Prelude.{◌≡◌, ℕ, Bool, true, false, ◌&&◌, ◌||◌, ◌⊎◌, ◌==◌, nat_le, nat_lt}
+-- Numbers and views: their ranges, and when a view is earlier than another.
+use Rattle.std.specs.Prelude.{ℕ, Bool, ◌&&◌, ◌||◌, ◌==◌, nat_le, nat_lt}
 use Rattle.numbers.specs.declared.views.ControllerNumber.{ControllerNumber}
 use Rattle.numbers.specs.declared.views.Place.{Place}
 use Rattle.numbers.specs.declared.views.Stamp.{Stamp}
@@ -45,11 +45,3 @@ earlier v w = nat_lt v.count.number w.count.number || (v.count.number == w.count
 
 abbrev pub same_view : View → View → Bool
 same_view v w = v.count.number == w.count.number && v.controller.number == w.controller.number
-
--- the order is total, and `same_view` is equality
-abbrev pub TotalOrder : Type 0
-TotalOrder =
-    ((v : View) → earlier v v ≡ false)
-    × ((u v w : View) → earlier u v ≡ true → earlier v w ≡ true → earlier u w ≡ true)
-    × ((v w : View) → (earlier v w ≡ true) ⊎ ((v ≡ w) ⊎ (earlier w v ≡ true)))
-    × ((v w : View) → (same_view v w ≡ true → v ≡ w) × (v ≡ w → same_view v w ≡ true))

@@ -1,15 +1,20 @@
-//! Numbers and views: the lowest layer. Each kind of number has a type of its own.
+//! Numbers, views, stamps and the members of a site, each of a type of its own, and counting over a table: the
+//! lowest layer.
 #![tactic(auto)]
 
+mod counting;
 mod majorities;
+mod members;
 mod order;
 mod records;
 mod refusals;
 mod rows;
 mod views;
 
+pub use counting::{count, every, first, some};
 pub use majorities::majority;
-pub use order::views_are_ordered;
+pub use members::Member;
+pub use order::{stamps_are_ordered, views_are_ordered};
 pub use records::CellRecord;
 pub use refusals::Refusal;
 pub use rows::Row;

@@ -1,11 +1,11 @@
 //! Cell records: two views, of which the current one is never later than the promised one.
-ghost use Rattle.std.specs.Prelude.{◌≡◌, ◌+◌, ◌*◌, true, false, MatchResult};
+ghost use Rattle.std.specs.Prelude.{◌≡◌, true, false, MatchResult};
 ghost use Rattle.numbers.specs.Refusals.{refusal};
 ghost use Rattle.numbers.specs.Rows.{row_ok, zero_row};
 
 use crate::refusals::Refusal;
 use crate::rows::Row;
-use crate::views::{ControllerNumber, View};
+use crate::views::ControllerNumber;
 
 /// A record that a cell can hold. Whoever has one may rely on its form without a test.
 #[derive(Clone, Copy, PartialEq, Eq, Debug)]
@@ -26,7 +26,7 @@ impl TryFrom<Row> for CellRecord {
     // The count of the current view is no larger than that of the promised one, so it needs no
     // test of its own.
     fn try_from(row: Row) -> Result<CellRecord, Refusal> {
-        if rank(row.promised) < rank(row.current)
+        if row.promised.rank() < row.current.rank()
             || !row.promised.is_ok()
             || row.current.controller.number > ControllerNumber::LAST
         {
@@ -34,13 +34,6 @@ impl TryFrom<Row> for CellRecord {
         }
         Ok(CellRecord { row })
     }
-}
-
-// A view as one number, so that two are compared at once: the later view has the larger one.
-fn rank(view: View) -> u32
-    ensures { result ≡ view.count.number * 65536 + view.controller.number }
-{
-    view.count.number as u32 * 65_536 + view.controller.number as u32
 }
 
 impl CellRecord {

@@ -1,6 +1,7 @@
 //! Why a call was refused: one case for each question that a call can fail.
 ghost use Rattle.std.specs.Prelude.{◌≡◌};
 
+/// The question that a call failed.
 #[derive(Clone, Copy, PartialEq, Eq, Debug)]
 pub enum Refusal {
     /// n, cap or the pool is out of range, or the books are not n × cap entries; later, the site
@@ -40,8 +41,7 @@ pub enum Refusal {
     BadForm,
 }
 
-/// The number by which users know the refusal. A `match`, and no `as u8`, of which a proof could not
-/// name the numbers.
+/// The number by which users know the refusal.
 impl From<Refusal> for u8 {
     ghost use Rattle.numbers.specs.Refusals.{number_of, refusal};
 

@@ -1,6 +1,7 @@
 //! Rows: the two views of a cell record as a table keeps them, with any numbers.
 use crate::views::View;
 
+/// Two views, in range and in order or not.
 #[derive(Clone, Copy, PartialEq, Eq, Debug)]
 pub struct Row {
     pub current: View,

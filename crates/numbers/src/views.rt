@@ -1,7 +1,7 @@
 //! Places, view counts, controller numbers, views and stamps. Their fields are public, since
 //! memory that a caller lends may hold any numbers; `try_from` and `new` make only what keeps its
 //! range.
-ghost use Rattle.std.specs.Prelude.{◌≡◌, if◌then◌else◌, ◌&&◌, nat_le, Ok, Err};
+ghost use Rattle.std.specs.Prelude.{◌≡◌, if◌then◌else◌, ◌&&◌, ◌+◌, ◌*◌, nat_le, Ok, Err};
 ghost use Rattle.numbers.specs.Refusals.{refusal};
 
 use crate::refusals::Refusal;
@@ -50,8 +50,6 @@ fn within(number: u16, least: u16, most: u16) -> Result<u16, Refusal>
     }
 }
 
-// Three conversions, one for each type, since no macro writes a clause.
-
 /// The place of that number; refused at 0.
 impl TryFrom<u16> for Place {
     ghost use Rattle.numbers.specs.Views.{place_of, place_ok};
@@ -95,12 +93,15 @@ impl TryFrom<u16> for ControllerNumber {
 }
 
 impl ViewCount {
+    /// The largest count.
     pub const LAST: u16 = 16_383;
 }
 
 impl ControllerNumber {
+    /// The first controller, which is primary of the first view.
     pub const ZERO: ControllerNumber = ControllerNumber { number: 0 };
 
+    /// The largest number of a controller.
     pub const LAST: u16 = 6;
 }
 
@@ -113,7 +114,8 @@ impl View {
         controller: ControllerNumber::ZERO,
     };
 
-    /// The view of any two numbers, in range or not, as lent memory may hold it.
+    /// The view of any two numbers, in range or not, as lent memory may hold it. It asks nothing; `new` asks for the
+    /// ranges.
     pub fn of(count: u16, controller: u16) -> View
         ensures { result ≡ view_of count controller }
     {
@@ -137,6 +139,13 @@ impl View {
         ensures { result ≡ view_ok self }
     {
         self.count.number <= ViewCount::LAST && self.controller.number <= ControllerNumber::LAST
+    }
+
+    // The view as one number, so that two are compared at once: the later view has the larger one.
+    pub(crate) fn rank(self) -> u32
+        ensures { result ≡ self.count.number * 65536 + self.controller.number }
+    {
+        self.count.number as u32 * 65_536 + self.controller.number as u32
     }
 
     /// Whether this view is earlier than the other: `<`, in the rules' word.

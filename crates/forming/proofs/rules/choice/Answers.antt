@@ -1,6 +1,6 @@
 use Rattle.std.proofs.Common.{◌≡◌, ◌≤◌, Some, None, sym, rules}
 use Rattle.numbers.specs.Majorities.{majority_of}
-use Rattle.forming.specs.Counting.{count, first}
+use Rattle.numbers.specs.Counting.{count, first}
 use Rattle.forming.specs.Rules.{answered, is_best, choice}
 use Rattle.forming.proofs.rules.choice.Goals as goal
 use Rattle.forming.proofs.ByRules.{by_rules_at}

@@ -1,4 +1,4 @@
-use Rattle.std.proofs.Common.{◌+◌, ◌∷◌, get_or, drop, ap, ◌∙◌, arith}
+use Rattle.std.proofs.Common.{◌+◌, get_or, drop, ap, ◌∙◌, arith}
 use Rattle.std.proofs.lemmas.List.{length-set}
 use Rattle.numbers.specs.Records.{row_of}
 use Rattle.cabinet.specs.Slots.{slot_bytes}
@@ -11,8 +11,8 @@ invariant_of-self c =
     let s = c.args.self.now in
     record {
       seven = s.seven;
-      counted = rest_counted s.sound s.bytes.now c.args.cell c.in-Some.at s.tells c.in-Some.ensures.place c.in-Some.ensures.part c.in-Some.ensures.room _ _ (row_of c.args.new) c.args.new.kept (omega arith) (c.write_slot.ensures ∙ ap (λ w. 0 ∷ drop 1 (slot_bytes w)) c.row.ensures.value) s.counts s.counted;
-      tells = rest_told s.sound s.bytes.now c.args.cell c.in-Some.at s.tells c.in-Some.ensures.place c.in-Some.ensures.part c.in-Some.ensures.room _ _ (row_of c.args.new) c.args.new.kept (omega arith) (c.write_slot.ensures ∙ ap (λ w. 0 ∷ drop 1 (slot_bytes w)) c.row.ensures.value);
+      counted = rest_counted s.sound s.bytes.now c.args.cell c.in-Some.at s.tells c.in-Some.ensures.place c.in-Some.ensures.part c.in-Some.ensures.room _ _ (row_of c.args.new) c.args.new.kept (omega arith) (c.write_views.ensures ∙ ap (λ w. drop 1 (slot_bytes w)) c.row.ensures.value) s.counts s.counted;
+      tells = rest_told s.sound s.bytes.now c.args.cell c.in-Some.at s.tells c.in-Some.ensures.place c.in-Some.ensures.part c.in-Some.ensures.room _ _ (row_of c.args.new) c.args.new.kept (omega arith) (c.write_views.ensures ∙ ap (λ w. drop 1 (slot_bytes w)) c.row.ensures.value);
     }
 
 pub overflow_add-self : goal.overflow_add-self
@@ -27,16 +27,16 @@ invariant_of-self-2 c =
     let s = c.args.self.now in
     record {
       seven = length-set s.counts c.args.cell (get_or s.counts c.args.cell 0 + 1) ∙ s.seven;
-      counted = put_counted s.sound s.bytes.now c.args.cell c.in-Some.at s.tells c.in-Some.ensures.place c.in-Some.ensures.part c.in-Some.ensures.room _ _ (row_of c.args.new) c.args.new.kept (omega arith) (c.write_slot.ensures ∙ ap (λ w. 0 ∷ drop 1 (slot_bytes w)) c.row.ensures.value) s.counts s.counted s.seven;
-      tells = put_told s.sound s.bytes.now c.args.cell c.in-Some.at s.tells c.in-Some.ensures.place c.in-Some.ensures.part c.in-Some.ensures.room _ _ (row_of c.args.new) c.args.new.kept (omega arith) (c.write_slot.ensures ∙ ap (λ w. 0 ∷ drop 1 (slot_bytes w)) c.row.ensures.value);
+      counted = put_counted s.sound s.bytes.now c.args.cell c.in-Some.at s.tells c.in-Some.ensures.place c.in-Some.ensures.part c.in-Some.ensures.room _ _ (row_of c.args.new) c.args.new.kept (omega arith) (c.write_views.ensures ∙ ap (λ w. drop 1 (slot_bytes w)) c.row.ensures.value) s.counts s.counted s.seven;
+      tells = put_told s.sound s.bytes.now c.args.cell c.in-Some.at s.tells c.in-Some.ensures.place c.in-Some.ensures.part c.in-Some.ensures.room _ _ (row_of c.args.new) c.args.new.kept (omega arith) (c.write_views.ensures ∙ ap (λ w. drop 1 (slot_bytes w)) c.row.ensures.value);
     }
 
 pub returns-clause-after : goal.returns-clause-after
 returns-clause-after c =
     let s = c.args.self.now in
-    put_cells_are s.sound s.bytes.now c.args.cell c.in-Some.at s.tells c.in-Some.ensures.place c.in-Some.ensures.part c.in-Some.ensures.room _ _ (row_of c.args.new) c.args.new.kept (omega arith) (c.write_slot.ensures ∙ ap (λ w. 0 ∷ drop 1 (slot_bytes w)) c.row.ensures.value)
+    put_cells_are s.sound s.bytes.now c.args.cell c.in-Some.at s.tells c.in-Some.ensures.place c.in-Some.ensures.part c.in-Some.ensures.room _ _ (row_of c.args.new) c.args.new.kept (omega arith) (c.write_views.ensures ∙ ap (λ w. drop 1 (slot_bytes w)) c.row.ensures.value)
 
 pub returns-clause-bytes : goal.returns-clause-bytes
 returns-clause-bytes c =
     let s = c.args.self.now in
-    put_bytes_are s.sound s.bytes.now c.args.cell c.in-Some.at s.tells c.in-Some.ensures.place c.in-Some.ensures.part c.in-Some.ensures.room _ _ (row_of c.args.new) c.args.new.kept (omega arith) (c.write_slot.ensures ∙ ap (λ w. 0 ∷ drop 1 (slot_bytes w)) c.row.ensures.value)
+    put_bytes_are s.sound s.bytes.now c.args.cell c.in-Some.at s.tells c.in-Some.ensures.place c.in-Some.ensures.part c.in-Some.ensures.room _ _ (row_of c.args.new) c.args.new.kept (omega arith) (c.write_views.ensures ∙ ap (λ w. drop 1 (slot_bytes w)) c.row.ensures.value)

@@ -1,6 +1,6 @@
 use Rattle.std.proofs.Common.{◌≡◌, get_or, sym, ap, ◌∙◌, arith}
 use Rattle.std.proofs.lemmas.Grind.{common_steps}
-use Rattle.cabinet.specs.declared.cells.Cell.{Cell}
+use Rattle.cabinet.specs.Cells.{Cell}
 use Rattle.cabinet.proofs.Rows.{cell_of}
 use Rattle.cabinet.proofs.tray.Tray.left.Goals as goal
 

@@ -2,7 +2,7 @@ use Rattle.std.proofs.Common.{◌≡◌, get_or, sym, ap, ◌∙◌, arith}
 use Rattle.std.proofs.lemmas.Grind.{common_steps}
 use Rattle.numbers.specs.Records.{row_of}
 use Rattle.numbers.specs.Rows.{zero_row}
-use Rattle.cabinet.specs.declared.cells.Cell.{Cell}
+use Rattle.cabinet.specs.Cells.{Cell}
 use Rattle.cabinet.proofs.Rows.{cell_of}
 use Rattle.cabinet.proofs.tray.TrayCabinet.held.Goals as goal
 

@@ -1,4 +1,4 @@
--- Which numbers are controllers of a site. Assumes nothing.
+-- Which numbers are controllers of a site.
 use Rattle.std.specs.Prelude.{ℕ, Bool, ◌&&◌, nat_le, nat_lt}
 use Rattle.numbers.specs.declared.views.ControllerNumber.{ControllerNumber}
 

@@ -3,7 +3,7 @@ use Rattle.std.proofs.lemmas.Fn.{says_at}
 use Rattle.std.proofs.lemmas.Iterator.{YieldsList-from_slice}
 use Rattle.std.proofs.lemmas.Iterator.Adapters.{serves_from_places}
 use Rattle.std.proofs.lemmas.Iterator.Search.{any_from_yields_List}
-use Rattle.forming.proofs.counting.some.Goals as goal
+use Rattle.numbers.proofs.counting.some.Goals as goal
 
 pub any-requires-clause-callable : goal.any-requires-clause-callable
 any-requires-clause-callable g c = serves_from_places (YieldsList-from_slice c.args.xs.now cc) (λ x q k. k.met.1) (λ x k lt e. c.requires.at (x, tt))

@@ -2,9 +2,10 @@
 ghost use Rattle.std.specs.Prelude.{◌≡◌, ◌<◌, ◌≤◌, true, false, take, MatchResult};
 ghost use Rattle.numbers.specs.Refusals.{refusal};
 
-use numbers::{ControllerNumber, Refusal};
+use crate::refusals::Refusal;
+use crate::views::ControllerNumber;
 
-/// Whoever has a member may rely on its number without a test.
+/// A controller of a site of n. Whoever has a member may rely on its number without a test.
 #[derive(Clone, Copy, PartialEq, Eq, Debug)]
 pub struct Member {
     number: ControllerNumber,
@@ -14,7 +15,7 @@ pub struct Member {
 }
 
 impl Member {
-    ghost use Rattle.forming.specs.Members.{is_member};
+    ghost use Rattle.numbers.specs.Members.{is_member};
 
     /// The controller of that number in a site of n; refused where the number is not below n.
     pub fn new(number: ControllerNumber, n: u16) -> Result<Member, Refusal>
@@ -26,13 +27,14 @@ impl Member {
         Ok(Member { number, n })
     }
 
+    /// The controller number, which is below n.
     pub fn number(self) -> ControllerNumber
         ensures { result ≡ self.number }
     {
         self.number
     }
 
-    /// How many controllers the site has.
+    /// How many controllers the site has, 7 at most.
     pub fn n(self) -> u16
         ensures value { result ≡ self.n }
         ensures few { result ≤ 7 }

@@ -1,11 +1,12 @@
-//! The meaning of a cabinet, and its three calls.
+//! What a cabinet is: the cells that it means, and its three calls.
 ghost use Rattle.std.specs.Prelude.{◌≡◌, if◌then◌else◌, Ok, Err};
 ghost use Rattle.numbers.specs.Records.{row_of};
 ghost use Rattle.cabinet.specs.Cells.{Seven, cell_at, is_worn, put_cells};
 
-use crate::cells::Worn;
+use crate::faults::Worn;
 use numbers::CellRecord;
 
+/// Seven cells, numbered from 0, each with a record and a number of writes left.
 pub trait Cabinet {
     // each cell's row and writes left; there are seven, numbered from 0
     ghost cells: { Self → Seven };

@@ -3,7 +3,7 @@ use Rattle.std.proofs.lemmas.Fn.{says_at}
 use Rattle.std.proofs.lemmas.Iterator.{YieldsList-from_slice}
 use Rattle.std.proofs.lemmas.Iterator.Adapters.{position_from-zero, serves_from_places}
 use Rattle.std.proofs.lemmas.Iterator.Search.{position_from_yields_List}
-use Rattle.forming.proofs.counting.first.Goals as goal
+use Rattle.numbers.proofs.counting.first.Goals as goal
 
 pub position-requires-clause-callable : goal.position-requires-clause-callable
 position-requires-clause-callable g c = serves_from_places (YieldsList-from_slice c.args.xs.now cc) (λ x q k. k.met.1) (λ x k lt e. c.requires.at (x, tt))

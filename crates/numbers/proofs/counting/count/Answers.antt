@@ -1,8 +1,8 @@
 use Rattle.std.proofs.Common.{◌≡◌, true, false, sym, arith}
 use Rattle.std.proofs.lemmas.Fn.{says_at}
-use Rattle.forming.proofs.Counted.{count_yes, count_no}
-use Rattle.forming.proofs.counting.count.Goals as goal
-use Rattle.forming.proofs.counting.count.Goals.{then-test, else-test}
+use Rattle.numbers.proofs.Counted.{count_yes, count_no}
+use Rattle.numbers.proofs.counting.count.Goals as goal
+use Rattle.numbers.proofs.counting.count.Goals.{then-test, else-test}
 
 pub loop-x-preserved : goal.loop-x-preserved
 loop-x-preserved g c =

@@ -1,10 +1,10 @@
--- One element further in a count, and what the answer of a count or a search says of each element. Assumes nothing.
+-- One element further in a count, and what the answer of a count or a search says of each element.
 use Rattle.std.proofs.Common.{◌≡◌, ℕ, zero, suc, ◌+◌, ◌<◌, ◌≤◌, Bool, true, false, cond, List, [], ◌∷◌, length, get_or, drop, Some, None, Option, sym, refl, ap, ◌∙◌, subst, inl, inr, suc-le-suc, le_of_suc-le-suc, not-suc-le-zero, zero-lt-suc, arith}
 use Rattle.std.proofs.lemmas.List.{drop_more}
 use Rattle.std.proofs.lemmas.Option.{none-some, same_Some}
 use Rattle.std.proofs.lemmas.Bool.{or_parts, or_cases, cases_Bool, false≢true}
 use Rattle.std.proofs.lemmas.List.Recursion.{and_at, and_from_places, or_at}
-use Rattle.forming.specs.Counting.{count, every, some, first, first_from}
+use Rattle.numbers.specs.Counting.{count, every, some, first, first_from}
 
 -- the list has what is read as one that is there
 pub get_or_within : {A : Type 0} (xs : List (Option A)) (i : ℕ) (a : A) → get_or xs i None ≡ Some a → i < length xs
