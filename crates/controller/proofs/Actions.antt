@@ -4,9 +4,8 @@ use Rattle.std.proofs.lemmas.List.{get_or-set_other}
 use Rattle.numbers.specs.declared.refusals.Refusal.{Refusal}
 use Rattle.numbers.specs.declared.rows.Row.{Row}
 use Rattle.numbers.specs.declared.views.ControllerNumber.{ControllerNumber}
-use Rattle.entries.specs.declared.book.Message.{Message}
-use Rattle.cabinet.specs.declared.cells.Cell.{Cell}
-use Rattle.cabinet.specs.Cells.{cell_at, fresh, is_worn}
+use Rattle.entries.specs.declared.messages.Message.{Message}
+use Rattle.cabinet.specs.Cells.{Cell, cell_at, fresh, is_worn}
 use Rattle.controller.specs.declared.faults.Fault.{Fault}
 use Rattle.controller.specs.Questions.{Question, asks}
 use Rattle.controller.specs.Actions.{Action, Effect, Own, cells_after, effect_of, put_asks, refused, room_asks, taken}

@@ -4,8 +4,8 @@ use Rattle.std.specs.Option.{option_map}
 use Rattle.numbers.specs.declared.refusals.Refusal.TheVariants.{NoRuleAllows, PoolFull}
 use Rattle.numbers.specs.declared.views.ControllerNumber.{ControllerNumber}
 use Rattle.numbers.specs.Views.{controller_of}
-use Rattle.entries.specs.declared.book.Message.{Message}
-use Rattle.entries.specs.declared.book.Reply.{Reply}
+use Rattle.entries.specs.declared.messages.Message.{Message}
+use Rattle.entries.specs.declared.messages.Reply.{Reply}
 use Rattle.forming.specs.Rules.{ByRules, choice}
 use Rattle.forming.proofs.ByRules.{by_rules_at}
 use Rattle.controller.specs.declared.faults.Fault.{Fault}

@@ -6,9 +6,8 @@ use Rattle.numbers.specs.declared.rows.Row.{Row}
 use Rattle.numbers.specs.declared.views.ControllerNumber.{ControllerNumber}
 use Rattle.numbers.specs.Rows.{row_ok}
 use Rattle.entries.specs.declared.book.Entry.{Entry}
-use Rattle.entries.specs.declared.book.Message.{Message}
-use Rattle.cabinet.specs.declared.cells.Cell.{Cell}
-use Rattle.cabinet.specs.Cells.{is_worn, put_cells}
+use Rattle.entries.specs.declared.messages.Message.{Message}
+use Rattle.cabinet.specs.Cells.{Cell, is_worn, put_cells}
 use Rattle.controller.specs.declared.faults.Fault.{Fault}
 use Rattle.controller.specs.declared.faults.Fault.TheVariants.{Refused}
 use Rattle.controller.specs.declared.outcomes.Outcome.{Outcome}

@@ -5,11 +5,11 @@ use Rattle.numbers.specs.declared.views.ControllerNumber.{ControllerNumber}
 use Rattle.numbers.specs.declared.views.Place.{Place}
 use Rattle.numbers.specs.declared.views.View.{View}
 use Rattle.numbers.specs.Views.{earlier, same_view}
-use Rattle.entries.specs.declared.book.Body.{Body}
-use Rattle.entries.specs.declared.book.Body.TheVariants.{Invitation, Answer, Form, Entry as Carries, Acknowledgement}
+use Rattle.entries.specs.declared.messages.Body.{Body}
+use Rattle.entries.specs.declared.messages.Body.TheVariants.{Invitation, Answer, Form, Entry as Carries, Acknowledgement}
 use Rattle.entries.specs.declared.book.Entry.{Entry}
-use Rattle.entries.specs.declared.book.Message.{Message}
-use Rattle.entries.specs.declared.book.Reply.{Reply}
+use Rattle.entries.specs.declared.messages.Message.{Message}
+use Rattle.entries.specs.declared.messages.Reply.{Reply}
 use Rattle.controller.specs.declared.outcomes.Outcome.TheVariants.{Delivered}
 use Rattle.controller.specs.declared.records.Controller.{Controller}
 use Rattle.controller.specs.declared.records.Status.{Status}

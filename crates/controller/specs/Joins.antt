@@ -4,7 +4,7 @@ use Rattle.numbers.specs.declared.refusals.Refusal.TheVariants.{DoesNotFit, NotP
 use Rattle.numbers.specs.declared.views.ControllerNumber.{ControllerNumber}
 use Rattle.numbers.specs.declared.views.View.{View}
 use Rattle.numbers.specs.Views.{earlier, same_view}
-use Rattle.entries.specs.declared.book.Body.TheVariants.{Acknowledgement}
+use Rattle.entries.specs.declared.messages.Body.TheVariants.{Acknowledgement}
 use Rattle.entries.specs.declared.book.Entry.{Entry}
 use Rattle.controller.specs.declared.faults.Fault.{Fault}
 use Rattle.controller.specs.declared.records.Controller.{Controller}

@@ -3,11 +3,11 @@ use Rattle.std.specs.Prelude.{ℕ, Bool, true, ◌&&◌, nat_le, nat_lt}
 use Rattle.numbers.specs.declared.views.ControllerNumber.{ControllerNumber}
 use Rattle.numbers.specs.declared.views.View.{View}
 use Rattle.numbers.specs.Views.{count_ok}
-use Rattle.entries.specs.declared.book.Body.{Body}
-use Rattle.entries.specs.declared.book.Body.TheVariants.{Invitation, Answer, Form, Entry, Acknowledgement}
-use Rattle.entries.specs.declared.book.Message.{Message}
-use Rattle.entries.specs.declared.book.Reply.{Reply}
-use Rattle.entries.specs.declared.book.Reply.TheVariants.{Normal, Crash}
+use Rattle.entries.specs.declared.messages.Body.{Body}
+use Rattle.entries.specs.declared.messages.Body.TheVariants.{Invitation, Answer, Form, Entry, Acknowledgement}
+use Rattle.entries.specs.declared.messages.Message.{Message}
+use Rattle.entries.specs.declared.messages.Reply.{Reply}
+use Rattle.entries.specs.declared.messages.Reply.TheVariants.{Normal, Crash}
 
 abbrev pub below : ℕ → ControllerNumber → Bool
 below n c = nat_lt c.number n

@@ -4,7 +4,7 @@ use Rattle.numbers.specs.declared.refusals.Refusal.TheVariants.{BookFull, DoesNo
 use Rattle.numbers.specs.declared.views.ControllerNumber.{ControllerNumber}
 use Rattle.numbers.specs.declared.views.Place.{Place}
 use Rattle.numbers.specs.Views.{place_of}
-use Rattle.entries.specs.declared.book.Body.TheVariants.{Entry as Carries}
+use Rattle.entries.specs.declared.messages.Body.TheVariants.{Entry as Carries}
 use Rattle.entries.specs.declared.book.Entry.{Entry}
 use Rattle.controller.specs.declared.outcomes.Outcome.TheVariants.{Changed}
 use Rattle.controller.specs.declared.records.Controller.{Controller}

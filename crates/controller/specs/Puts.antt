@@ -4,8 +4,7 @@ use Rattle.numbers.specs.declared.refusals.Refusal.TheVariants.{BadForm}
 use Rattle.numbers.specs.declared.rows.Row.{Row}
 use Rattle.numbers.specs.declared.views.ControllerNumber.{ControllerNumber}
 use Rattle.numbers.specs.Rows.{row_ok}
-use Rattle.cabinet.specs.declared.cells.Cell.{Cell}
-use Rattle.cabinet.specs.Cells.{is_worn, put_cells}
+use Rattle.cabinet.specs.Cells.{Cell, is_worn, put_cells}
 use Rattle.controller.specs.declared.faults.Fault.{Fault}
 use Rattle.controller.specs.declared.faults.Fault.TheVariants.{Refused}
 use Rattle.controller.specs.Faults.{worn_fault}

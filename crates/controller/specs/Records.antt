@@ -3,8 +3,8 @@ use Rattle.std.specs.Prelude.{ℕ, Bool, true, false, cond, List, [], replicate,
 use Rattle.numbers.specs.declared.views.ControllerNumber.{ControllerNumber}
 use Rattle.numbers.specs.Rows.{zero_row}
 use Rattle.numbers.specs.Views.{controller_of}
-use Rattle.entries.specs.declared.book.Reply.{Reply}
-use Rattle.entries.specs.declared.book.Reply.TheVariants.{Normal, Crash}
+use Rattle.entries.specs.declared.messages.Reply.{Reply}
+use Rattle.entries.specs.declared.messages.Reply.TheVariants.{Normal, Crash}
 use Rattle.controller.specs.declared.records.Controller.{Controller}
 use Rattle.controller.specs.declared.records.Status.{Status}
 use Rattle.controller.specs.declared.records.Status.TheVariants.{Down, Waiting, Manager, Backup, Primary}

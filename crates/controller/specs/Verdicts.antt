@@ -7,7 +7,7 @@ use Rattle.numbers.specs.declared.views.View.{View}
 use Rattle.numbers.specs.Majorities.{majority_of}
 use Rattle.numbers.specs.Views.{earlier, same_view}
 use Rattle.entries.specs.declared.book.Entry.{Entry}
-use Rattle.forming.specs.Counting.{count}
+use Rattle.numbers.specs.Counting.{count}
 use Rattle.controller.specs.declared.records.Controller.{Controller}
 use Rattle.controller.specs.declared.outcomes.Outcome.{Outcome}
 use Rattle.controller.specs.declared.outcomes.Outcome.TheVariants.{Settled}

@@ -5,7 +5,7 @@ use Rattle.numbers.specs.declared.refusals.Refusal.TheVariants.{CountsSpent, NoR
 use Rattle.numbers.specs.declared.views.ControllerNumber.{ControllerNumber}
 use Rattle.numbers.specs.declared.views.View.{View}
 use Rattle.numbers.specs.Views.{controller_of, count_of}
-use Rattle.entries.specs.declared.book.Body.TheVariants.{Invitation, Form}
+use Rattle.entries.specs.declared.messages.Body.TheVariants.{Invitation, Form}
 use Rattle.forming.specs.Rules.{choice}
 use Rattle.controller.specs.declared.outcomes.Outcome.TheVariants.{Formed}
 use Rattle.controller.specs.declared.records.Controller.{Controller}

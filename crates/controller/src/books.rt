@@ -4,8 +4,7 @@ ghost use Rattle.controller.specs.Books.{appended, at_place, cap_of, in_use};
 
 use crate::records::{Controller, Status};
 use entries::Entry;
-use forming::Member;
-use numbers::Place;
+use numbers::{Member, Place};
 
 /// How many entries the book can hold.
 pub fn capacity<E>(book: &[Entry<E>]) -> u16

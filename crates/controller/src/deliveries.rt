@@ -3,7 +3,7 @@ ghost use Rattle.std.specs.Prelude.{◌≡◌, ◌<◌, ◌≤◌, Bool, true, L
 ghost use Rattle.controller.specs.Records.{is_manager, is_primary, answers_of, lengths_of};
 ghost use Rattle.controller.specs.Books.{cap_of};
 ghost use Rattle.entries.specs.declared.book.Entry.{Entry};
-ghost use Rattle.cabinet.specs.declared.cells.Cell.{Cell};
+ghost use Rattle.cabinet.specs.Cells.{Cell};
 ghost use Rattle.controller.specs.declared.outcomes.Outcome.TheVariants.{Delivered};
 ghost use Rattle.controller.specs.Actions.{effect, handed_reply, own};
 ghost use Rattle.controller.specs.Deliveries.{deliver as delivers, takes, takes_acknowledgement, takes_answer, takes_entry, takes_form, takes_invitation};
@@ -17,8 +17,7 @@ use crate::records::{Controller, Status, only};
 use crate::view_changes::reply;
 use cabinet::Cabinet;
 use entries::{Body, Entry, Message, Reply};
-use forming::Member;
-use numbers::{Place, Refusal, Row, View, ViewCount};
+use numbers::{Member, Place, Refusal, Row, View, ViewCount};
 
 // The sizes of a site: n controllers, and cap entries a book.
 #[derive(Clone, Copy)]

@@ -14,8 +14,7 @@ use crate::questions::ask;
 use crate::records::{Controller, Status};
 use cabinet::Cabinet;
 use entries::{Body, Entry, Message};
-use forming::Member;
-use numbers::{ControllerNumber, Refusal, Row, View};
+use numbers::{ControllerNumber, Member, Refusal, Row, View};
 
 /// Follows the primary of a view, whose entries are the log: puts the view as current and
 /// acknowledges the log's length. Taking the log over into the book is the caller's business, in

@@ -22,7 +22,8 @@ mod view_changes;
 
 pub use deliveries::deliver;
 pub use faults::Fault;
-pub use forming::{Member, choice};
+pub use forming::choice;
+pub use numbers::Member;
 pub use joins::join;
 pub use lookups::lookup;
 pub use outcomes::Outcome;

@@ -1,6 +1,6 @@
 //! What an active controller answers from its book.
 ghost use Rattle.std.specs.Prelude.{◌≡◌, Bool, List};
-ghost use Rattle.cabinet.specs.declared.cells.Cell.{Cell};
+ghost use Rattle.cabinet.specs.Cells.{Cell};
 ghost use Rattle.controller.specs.declared.outcomes.Outcome.TheVariants.{Answered};
 ghost use Rattle.controller.specs.Actions.{as_outcome, effect, handed, own};
 ghost use Rattle.controller.specs.Lookups.{lookup as looks_up};
@@ -10,8 +10,7 @@ use crate::faults::Fault;
 use crate::questions::ask;
 use crate::records::Controller;
 use entries::{Answer, Entry, Kind, Question};
-use forming::Member;
-use numbers::Refusal;
+use numbers::{Member, Refusal};
 
 /// What the book answers to a question.
 pub fn lookup<E: Kind>(

@@ -1,7 +1,7 @@
 //! A power cut, and the recovery from it.
 ghost use Rattle.std.specs.Prelude.{◌≡◌, Bool, List};
 ghost use Rattle.entries.specs.declared.book.Entry.{Entry};
-ghost use Rattle.cabinet.specs.declared.cells.Cell.{Cell};
+ghost use Rattle.cabinet.specs.Cells.{Cell};
 ghost use Rattle.controller.specs.declared.outcomes.Outcome.TheVariants.{Done};
 ghost use Rattle.controller.specs.Actions.{as_outcome, effect, handed, own};
 ghost use Rattle.controller.specs.Power.{crash as crashes, recover as recovers};
@@ -10,8 +10,7 @@ use crate::faults::Fault;
 use crate::questions::ask;
 use crate::records::{Controller, Status};
 use cabinet::Cabinet;
-use forming::Member;
-use numbers::Refusal;
+use numbers::{Member, Refusal};
 
 /// The controller goes down and remembers nothing but its cell.
 pub fn crash<E>(me: Member, row: &mut Controller) -> Result<(), Fault>

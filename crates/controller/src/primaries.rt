@@ -3,7 +3,7 @@ ghost use Rattle.std.specs.Prelude.{◌≡◌, Bool, List, [], Ok, Err};
 ghost use Rattle.controller.specs.declared.outcomes.Outcome.TheVariants.{Changed, Done};
 ghost use Rattle.controller.specs.declared.faults.Fault.TheVariants.{Refused};
 ghost use Rattle.controller.specs.Primaries.{change as changes, pass as passes, primary_asks};
-ghost use Rattle.cabinet.specs.declared.cells.Cell.{Cell};
+ghost use Rattle.cabinet.specs.Cells.{Cell};
 ghost use Rattle.controller.specs.Questions.{asks};
 ghost use Rattle.controller.specs.Actions.{as_outcome, effect, handed, handed_message, own};
 ghost use Rattle.controller.specs.Slips.{stamp_on};
@@ -14,8 +14,7 @@ use crate::questions::{ask, refused};
 use crate::records::Controller;
 use crate::slips::Slip;
 use entries::{Body, Entry, Message};
-use forming::Member;
-use numbers::{ControllerNumber, Place, Refusal, Stamp};
+use numbers::{ControllerNumber, Member, Place, Refusal, Stamp};
 
 /// The questions of every step of a primary.
 pub fn ask_primary(me: Member, row: &Controller) -> Result<(), Fault>

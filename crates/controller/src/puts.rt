@@ -7,8 +7,7 @@ ghost use Rattle.controller.specs.Puts.{put_after, put_fails};
 use crate::faults::Fault;
 use crate::questions::refused;
 use cabinet::{Cabinet, Worn};
-use forming::Member;
-use numbers::{CellRecord, Row};
+use numbers::{CellRecord, Member, Row};
 
 /// Puts two views into the controller's own cell. A worn cell is refused before views that do not
 /// keep the form of a record.

@@ -3,8 +3,7 @@ ghost use Rattle.std.specs.Prelude.{◌≡◌, true, false, MatchResult};
 ghost use Rattle.controller.specs.declared.faults.Fault.TheVariants.{Refused};
 
 use crate::faults::Fault;
-use forming::Member;
-use numbers::Refusal;
+use numbers::{Member, Refusal};
 
 /// The fault of a controller whose step was refused.
 pub fn refused(me: Member, refusal: Refusal) -> Fault

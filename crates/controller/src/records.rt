@@ -3,8 +3,7 @@ ghost use Rattle.std.specs.Prelude.{◌≡◌};
 ghost use Rattle.controller.specs.Records.{is_up, is_waiting, is_manager, is_active, is_primary, down_record, first_record, only as only_of};
 
 use entries::Reply;
-use forming::Member;
-use numbers::{ControllerNumber, Row};
+use numbers::{ControllerNumber, Member, Row};
 
 /// What a controller is at, with what belongs to it. Active is Backup or Primary.
 #[derive(Clone, Copy, PartialEq, Eq, Debug)]

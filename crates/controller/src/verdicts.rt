@@ -1,11 +1,11 @@
 //! What becomes of a slip: confirmed, lost or waiting.
 ghost use Rattle.std.specs.Prelude.{◌≡◌, ℕ, Bool, List, Option};
-ghost use Rattle.cabinet.specs.declared.cells.Cell.{Cell};
+ghost use Rattle.cabinet.specs.Cells.{Cell};
 ghost use Rattle.controller.specs.declared.outcomes.Outcome.TheVariants.{Settled as Said};
 ghost use Rattle.controller.specs.Actions.{as_outcome, effect, handed, own};
 ghost use Rattle.controller.specs.Slips.{stamp_on};
 ghost use Rattle.std.specs.Fn.{FnReturnsAt};
-ghost use Rattle.forming.specs.Counting.{Answers};
+ghost use Rattle.numbers.specs.Counting.{Computes};
 ghost use Rattle.controller.specs.Verdicts.{ThreeWays, holds as book_holds, is_confirmed, is_lost, most as most_of, settle as settles, settled_by, verdict_of, with_slip};
 
 use crate::books::entry_at;
@@ -15,8 +15,7 @@ use crate::questions::ask;
 use crate::records::{Controller, Status};
 use crate::slips::{Settled, Slip};
 use entries::Entry;
-use forming::{Member, count};
-use numbers::{Refusal, Stamp, majority};
+use numbers::{Member, Refusal, Stamp, count, majority};
 
 #[derive(Clone, Copy, PartialEq, Eq, Debug)]
 pub enum Verdict {
@@ -29,7 +28,7 @@ pub enum Verdict {
 #[tactic(auto, unfolding(crate::specs::Verdicts::lengths_in))]
 fn most<F: Fn(&Option<u16>) -> bool>(me: Member, row: &Controller, test: F) -> bool
     requires { F.IsAlwaysCallable test }
-    ensures { (passes : Option ℕ → Bool) → Answers (FnReturnsAt F.Fn test) passes → result ≡ most_of me.n passes row.now }
+    ensures { (passes : Option ℕ → Bool) → Computes (FnReturnsAt F.Fn test) passes → result ≡ most_of me.n passes row.now }
 {
     let Status::Primary { lengths } = row.status else {
         return false;

@@ -1,8 +1,8 @@
 //! Calling a view, inviting to it and forming it.
 ghost use Rattle.std.specs.Prelude.{◌≡◌, Bool, List, Option, take};
 ghost use Rattle.entries.specs.declared.book.Entry.{Entry};
-ghost use Rattle.entries.specs.declared.book.Reply.{Reply as Replied};
-ghost use Rattle.cabinet.specs.declared.cells.Cell.{Cell};
+ghost use Rattle.entries.specs.declared.messages.Reply.{Reply as Replied};
+ghost use Rattle.cabinet.specs.Cells.{Cell};
 ghost use Rattle.controller.specs.declared.outcomes.Outcome.TheVariants.{Done, Formed};
 ghost use Rattle.controller.specs.Actions.{as_outcome, effect, handed, handed_message, own};
 ghost use Rattle.controller.specs.declared.records.Status.TheVariants.{Manager};
@@ -16,8 +16,8 @@ use crate::questions::{ask, refused};
 use crate::records::{Controller, Status, only};
 use cabinet::Cabinet;
 use entries::{Body, Message, Reply};
-use forming::{Member, choice_of_first};
-use numbers::{ControllerNumber, Refusal, Row, View, ViewCount};
+use forming::choice_of_first;
+use numbers::{ControllerNumber, Member, Refusal, Row, View, ViewCount};
 
 /// What the controller says of itself to a call.
 pub fn reply(me: Member, row: &Controller) -> Reply

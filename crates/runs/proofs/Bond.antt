@@ -4,12 +4,12 @@ use Rattle.numbers.specs.declared.rows.Row.{Row}
 use Rattle.numbers.specs.declared.views.View.{View}
 use Rattle.numbers.specs.Rows.{row_ok}
 use Rattle.numbers.specs.Views.{controller_of}
-use Rattle.entries.specs.declared.book.Body.{Body}
-use Rattle.entries.specs.declared.book.Body.TheVariants.{Invitation, Answer, Form, Entry as Carries, Acknowledgement}
+use Rattle.entries.specs.declared.messages.Body.{Body}
+use Rattle.entries.specs.declared.messages.Body.TheVariants.{Invitation, Answer, Form, Entry as Carries, Acknowledgement}
 use Rattle.entries.specs.declared.book.Entry.{Entry}
-use Rattle.entries.specs.declared.book.Message.{Message}
-use Rattle.entries.specs.declared.book.Reply.{Reply}
-use Rattle.entries.specs.declared.book.Reply.TheVariants.{Normal, Crash}
+use Rattle.entries.specs.declared.messages.Message.{Message}
+use Rattle.entries.specs.declared.messages.Reply.{Reply}
+use Rattle.entries.specs.declared.messages.Reply.TheVariants.{Normal, Crash}
 use Rattle.entries.specs.declared.kinds.Answer.{Answer as Light}
 use Rattle.entries.specs.declared.kinds.Question.{Question}
 use Rattle.entries.specs.Lookups.{looked}

@@ -2,11 +2,11 @@
 use Rattle.std.proofs.Common.{◌≡◌, ℕ, ◌<◌, ◌≤◌, Bool, true, List, length, get_or, take, Some, None, Option, sym, refl, ap, ◌∙◌, subst, inl, inr, arith, length-take}
 use Rattle.std.proofs.lemmas.List.{get_or-take}
 use Rattle.numbers.specs.declared.views.View.{View}
-use Rattle.entries.specs.declared.book.Reply.{Reply}
-use Rattle.entries.specs.declared.book.Reply.TheVariants.{Normal, Crash}
+use Rattle.entries.specs.declared.messages.Reply.{Reply}
+use Rattle.entries.specs.declared.messages.Reply.TheVariants.{Normal, Crash}
 use Rattle.forming.specs.Rules.{Allowed, AnswersCrashed, AnswersNormally, Chosen, LatestNormal, Rule2, Rule3, answered, choice, is_normal}
 use Rattle.forming.proofs.ByRules.{by_rules_at, latest_same}
-use Rattle.forming.proofs.Counted.{get_or_within}
+use Rattle.numbers.proofs.Counted.{get_or_within}
 use Rattle.protocol.specs.Majorities.{Majority}
 use Rattle.protocol.specs.Model as model
 use Rattle.protocol.specs.Model.{Latest, Rule, crashed, crashed_earlier, normal, normal_majority, primary_answered}

@@ -4,7 +4,7 @@ use Rattle.std.proofs.lemmas.Bool.{both_ways, eq-eqb}
 use Rattle.std.proofs.lemmas.Bool.Decides.{nat_tests}
 use Rattle.numbers.specs.declared.views.View.{View}
 use Rattle.numbers.specs.Views.{earlier, same_view, view_of}
-use Rattle.forming.proofs.ByRules.{same_view_equal}
+use Rattle.numbers.proofs.SameViews.{same_view_equal}
 use Rattle.protocol.specs.Views.{view_number}
 use Rattle.runs.proofs.Bond.{Small, code}
 

@@ -4,10 +4,10 @@ use Rattle.std.proofs.lemmas.Bool.{and_parts}
 use Rattle.numbers.specs.declared.views.ControllerNumber.{ControllerNumber}
 use Rattle.numbers.specs.declared.views.View.{View}
 use Rattle.numbers.specs.Views.{same_view}
-use Rattle.entries.specs.declared.book.Body.TheVariants.{Answer as Answers}
-use Rattle.entries.specs.declared.book.Message.{Message}
-use Rattle.entries.specs.declared.book.Reply.{Reply}
-use Rattle.entries.specs.declared.book.Reply.TheVariants.{Normal, Crash}
+use Rattle.entries.specs.declared.messages.Body.TheVariants.{Answer as Answers}
+use Rattle.entries.specs.declared.messages.Message.{Message}
+use Rattle.entries.specs.declared.messages.Reply.{Reply}
+use Rattle.entries.specs.declared.messages.Reply.TheVariants.{Normal, Crash}
 use Rattle.entries.specs.declared.kinds.Answer.{Answer as Light}
 use Rattle.entries.specs.declared.kinds.Question.{Question}
 use Rattle.cabinet.specs.Cells.{cell_at}

@@ -5,8 +5,8 @@ use Rattle.numbers.specs.declared.views.ControllerNumber.{ControllerNumber}
 use Rattle.numbers.specs.declared.views.View.{View}
 use Rattle.numbers.specs.Rows.{row_ok}
 use Rattle.numbers.specs.Views.{earlier}
-use Rattle.entries.specs.declared.book.Body.TheVariants.{Invitation, Answer as Answers}
-use Rattle.entries.specs.declared.book.Message.{Message}
+use Rattle.entries.specs.declared.messages.Body.TheVariants.{Invitation, Answer as Answers}
+use Rattle.entries.specs.declared.messages.Message.{Message}
 use Rattle.entries.specs.declared.kinds.Answer.{Answer as Light}
 use Rattle.entries.specs.declared.kinds.Question.{Question}
 use Rattle.cabinet.specs.Cells.{cell_at}

@@ -2,12 +2,12 @@
 use Rattle.std.proofs.Common.{◌≡◌, ℕ, ◌<◌, true, ltb, List, [], ◌∷◌, ◌++◌, Some, None, Option, refl, subst}
 use Rattle.std.proofs.lemmas.Bool.{ltb-true}
 use Rattle.numbers.specs.declared.refusals.Refusal.TheVariants.{BadMessage}
-use Rattle.entries.specs.declared.book.Body.{Body}
-use Rattle.entries.specs.declared.book.Body.TheVariants.{Invitation, Answer as Answers, Form, Entry as Carries, Acknowledgement}
-use Rattle.entries.specs.declared.book.Message.{Message}
+use Rattle.entries.specs.declared.messages.Body.{Body}
+use Rattle.entries.specs.declared.messages.Body.TheVariants.{Invitation, Answer as Answers, Form, Entry as Carries, Acknowledgement}
+use Rattle.entries.specs.declared.messages.Message.{Message}
 use Rattle.entries.specs.declared.kinds.Answer.{Answer as Light}
 use Rattle.entries.specs.declared.kinds.Question.{Question}
-use Rattle.forming.specs.Members.{is_member}
+use Rattle.numbers.specs.Members.{is_member}
 use Rattle.controller.specs.Books.{cap_of, item}
 use Rattle.controller.specs.declared.outcomes.Outcome.{Outcome}
 use Rattle.controller.specs.Deliveries.{deliver, takes}

@@ -4,9 +4,9 @@ use Rattle.std.proofs.lemmas.Bool.{false≢true, ltb-true}
 use Rattle.std.specs.Option.{option_map}
 use Rattle.numbers.specs.declared.views.ControllerNumber.{ControllerNumber}
 use Rattle.numbers.specs.Views.{controller_of}
-use Rattle.entries.specs.declared.book.Body.TheVariants.{Form as Opens}
-use Rattle.entries.specs.declared.book.Message.{Message}
-use Rattle.entries.specs.declared.book.Reply.{Reply}
+use Rattle.entries.specs.declared.messages.Body.TheVariants.{Form as Opens}
+use Rattle.entries.specs.declared.messages.Message.{Message}
+use Rattle.entries.specs.declared.messages.Reply.{Reply}
 use Rattle.entries.specs.declared.kinds.Answer.{Answer as Light}
 use Rattle.entries.specs.declared.kinds.Question.{Question}
 use Rattle.cabinet.specs.Cells.{cell_at}

@@ -6,11 +6,10 @@ use Rattle.std.proofs.lemmas.Option.{same_Some}
 use Rattle.numbers.specs.declared.rows.Row.{Row}
 use Rattle.numbers.specs.declared.views.ControllerNumber.{ControllerNumber}
 use Rattle.entries.specs.declared.book.Entry.{Entry}
-use Rattle.entries.specs.declared.book.Message.{Message}
+use Rattle.entries.specs.declared.messages.Message.{Message}
 use Rattle.entries.specs.declared.kinds.Answer.{Answer as Light}
 use Rattle.entries.specs.declared.kinds.Question.{Question}
-use Rattle.cabinet.specs.declared.cells.Cell.{Cell}
-use Rattle.cabinet.specs.Cells.{cell_at}
+use Rattle.cabinet.specs.Cells.{Cell, cell_at}
 use Rattle.cabinet.proofs.Blocks.{over_length, block_here}
 use Rattle.cabinet.proofs.Cuts.{parts_apart}
 use Rattle.controller.specs.declared.records.Controller.{Controller}

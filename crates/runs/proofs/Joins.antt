@@ -5,7 +5,7 @@ use Rattle.std.proofs.lemmas.Bool.{leb-true, ltb-true}
 use Rattle.numbers.specs.declared.views.ControllerNumber.{ControllerNumber}
 use Rattle.numbers.specs.declared.views.View.{View}
 use Rattle.numbers.specs.Views.{earlier, same_view}
-use Rattle.entries.specs.declared.book.Body.TheVariants.{Acknowledgement}
+use Rattle.entries.specs.declared.messages.Body.TheVariants.{Acknowledgement}
 use Rattle.entries.specs.declared.book.Entry.{Entry}
 use Rattle.entries.specs.declared.kinds.Answer.{Answer as Light}
 use Rattle.entries.specs.declared.kinds.Question.{Question}

@@ -1,7 +1,7 @@
 -- A majority counted in a table is one of the protocol.
 use Rattle.std.proofs.Common.{◌≡◌, ℕ, zero, suc, ◌+◌, ◌<◌, ◌≤◌, Bool, true, false, cond, List, [], ◌∷◌, ◌++◌, length, get_or, take, sym, refl, ap, ◌∙◌, arith, take-suc}
 use Rattle.numbers.specs.Majorities.{majority_of}
-use Rattle.forming.specs.Counting.{count as counted}
+use Rattle.numbers.specs.Counting.{count as counted}
 use Rattle.protocol.specs.Majorities.{Majority, bit, count}
 
 module _ {A : Type 0} (test : A → Bool) where

@@ -7,8 +7,7 @@ use Rattle.numbers.specs.declared.views.ControllerNumber.{ControllerNumber}
 use Rattle.entries.specs.declared.book.Entry.{Entry}
 use Rattle.entries.specs.declared.kinds.Answer.{Answer as Light}
 use Rattle.entries.specs.declared.kinds.Question.{Question}
-use Rattle.cabinet.specs.declared.cells.Cell.{Cell}
-use Rattle.cabinet.specs.Cells.{cell_at, fresh, is_worn}
+use Rattle.cabinet.specs.Cells.{Cell, cell_at, fresh, is_worn}
 use Rattle.controller.specs.Actions.{Action, cells_after, own, put_asks}
 use Rattle.controller.proofs.Actions.{AllYes, cells_others}
 use Rattle.site.specs.States.{State, book, put_share}

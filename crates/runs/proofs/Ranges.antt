@@ -6,8 +6,8 @@ use Rattle.numbers.specs.declared.views.ControllerNumber.{ControllerNumber}
 use Rattle.numbers.specs.declared.views.View.{View}
 use Rattle.numbers.specs.Rows.{row_ok}
 use Rattle.numbers.specs.Views.{controller_ok, count_ok, earlier, view_ok}
-use Rattle.entries.specs.declared.book.Message.{Message}
-use Rattle.forming.specs.Members.{is_member}
+use Rattle.entries.specs.declared.messages.Message.{Message}
+use Rattle.numbers.specs.Members.{is_member}
 use Rattle.controller.specs.Messages.{below, body_ok, message_ok, view_below}
 use Rattle.runs.proofs.Bond.{Small}
 

@@ -3,9 +3,9 @@ use Rattle.std.proofs.Common.{◌≡◌, ℕ, ◌-◌, ◌<◌, true, List, Some
 use Rattle.std.proofs.lemmas.Bool.{false≢true, ltb-true}
 use Rattle.numbers.specs.declared.views.ControllerNumber.{ControllerNumber}
 use Rattle.numbers.specs.declared.views.Place.{Place}
-use Rattle.entries.specs.declared.book.Body.TheVariants.{Invitation, Entry as Carries}
+use Rattle.entries.specs.declared.messages.Body.TheVariants.{Invitation, Entry as Carries}
 use Rattle.entries.specs.declared.book.Entry.{Entry}
-use Rattle.entries.specs.declared.book.Message.{Message}
+use Rattle.entries.specs.declared.messages.Message.{Message}
 use Rattle.entries.specs.declared.kinds.Answer.{Answer as Light}
 use Rattle.entries.specs.declared.kinds.Question.{Question}
 use Rattle.cabinet.specs.Cells.{cell_at}

@@ -14,9 +14,8 @@ use Rattle.numbers.specs.Views.{controller_of, same_view, view_of}
 use Rattle.entries.specs.declared.book.Entry.{Entry}
 use Rattle.entries.specs.declared.kinds.Answer.{Answer as Light}
 use Rattle.entries.specs.declared.kinds.Question.{Question}
-use Rattle.cabinet.specs.declared.cells.Cell.{Cell}
-use Rattle.cabinet.specs.Cells.{cell_at}
-use Rattle.forming.proofs.ByRules.{same_view_equal}
+use Rattle.cabinet.specs.Cells.{Cell, cell_at}
+use Rattle.numbers.proofs.SameViews.{same_view_equal}
 use Rattle.controller.specs.Questions.{ask, asks}
 use Rattle.controller.specs.Records.{down_record, first_record, first_status, only}
 use Rattle.site.specs.Making.{cells_zero, made_row, made_site, make_step, same_row, sizes_ok}

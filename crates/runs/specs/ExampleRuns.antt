@@ -1,9 +1,9 @@
 -- Three runs of card changes at three controllers, and their histories: what the guarantee speaks of occurs.
 use Rattle.std.specs.Prelude.{◌≡◌, true, false, List, [], ◌∷◌, replicate}
 use Rattle.numbers.specs.Views.{controller_of, place_of, stamp_of, view_of}
-use Rattle.entries.specs.declared.book.Body.TheVariants.{Invitation}
+use Rattle.entries.specs.declared.messages.Body.TheVariants.{Invitation}
 use Rattle.entries.specs.declared.book.Entry.{Entry}
-use Rattle.entries.specs.declared.book.Message.{Message}
+use Rattle.entries.specs.declared.messages.Message.{Message}
 use Rattle.entries.specs.declared.cards.CardChange.{CardChange}
 use Rattle.entries.specs.declared.kinds.Answer.TheVariants.{Green, Red}
 use Rattle.entries.specs.declared.kinds.Question.{Question}

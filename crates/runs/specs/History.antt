@@ -4,10 +4,10 @@ use Rattle.numbers.specs.declared.views.ControllerNumber.{ControllerNumber}
 use Rattle.numbers.specs.declared.views.Stamp.{Stamp}
 use Rattle.numbers.specs.declared.views.View.{View}
 use Rattle.numbers.specs.Views.{same_view, view_of}
-use Rattle.entries.specs.declared.book.Body.{Body}
-use Rattle.entries.specs.declared.book.Body.TheVariants.{Form}
+use Rattle.entries.specs.declared.messages.Body.{Body}
+use Rattle.entries.specs.declared.messages.Body.TheVariants.{Form}
 use Rattle.entries.specs.declared.book.Entry.{Entry}
-use Rattle.entries.specs.declared.book.Message.{Message}
+use Rattle.entries.specs.declared.messages.Message.{Message}
 use Rattle.entries.specs.declared.kinds.Answer.{Answer}
 use Rattle.entries.specs.declared.kinds.Question.{Question}
 use Rattle.controller.specs.declared.verdicts.Verdict.{Verdict}

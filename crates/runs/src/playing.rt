@@ -3,7 +3,7 @@
 ghost use Rattle.std.specs.Prelude.{◌≡◌, if◌then◌else◌, List, Ok, Err};
 ghost use Rattle.numbers.specs.declared.refusals.Refusal.TheVariants.{BadForm};
 ghost use Rattle.numbers.specs.Views.{controller_of, stamp_ok};
-ghost use Rattle.cabinet.specs.declared.cells.Cell.{Cell};
+ghost use Rattle.cabinet.specs.Cells.{Cell};
 ghost use Rattle.controller.specs.declared.outcomes.Outcome.TheVariants.{Settled as Said};
 ghost use Rattle.controller.specs.Actions.{as_outcome};
 ghost use Rattle.controller.specs.Slips.{slip_of};

@@ -6,7 +6,7 @@ use Rattle.std.proofs.lemmas.Bool.{cases_order, eqb-false, not-true}
 use Rattle.std.proofs.lemmas.List.{append_assoc, drop-drop, drop-take, length-drop, length-take, take-append-drop}
 use Rattle.numbers.specs.declared.views.ControllerNumber.{ControllerNumber}
 use Rattle.entries.specs.declared.book.Entry.{Entry}
-use Rattle.forming.specs.declared.members.Member.{Member}
+use Rattle.numbers.specs.declared.members.Member.{Member}
 use Rattle.controller.specs.Joins.{copied}
 use Rattle.site.specs.declared.records.Site.{Site}
 use Rattle.site.specs.States.{IsPair, part, with_part}

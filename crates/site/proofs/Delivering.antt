@@ -3,8 +3,8 @@ use Rattle.std.proofs.Common.{◌≡◌, ℕ, ◌<◌, true, List, [], ◌∷◌
 use Rattle.std.proofs.lemmas.Result.{MatchResult-weaker}
 use Rattle.numbers.specs.declared.refusals.Refusal.TheVariants.{BadMessage}
 use Rattle.numbers.specs.declared.views.ControllerNumber.{ControllerNumber}
-use Rattle.entries.specs.declared.book.Message.{Message}
-use Rattle.forming.specs.Members.{is_member}
+use Rattle.entries.specs.declared.messages.Message.{Message}
+use Rattle.numbers.specs.Members.{is_member}
 use Rattle.controller.specs.Books.{item}
 use Rattle.controller.specs.Deliveries.{deliver}
 use Rattle.controller.specs.Questions.{ask}

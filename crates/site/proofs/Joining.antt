@@ -3,9 +3,9 @@ use Rattle.std.proofs.Common.{◌≡◌, ℕ, ◌+◌, ◌-◌, ◌*◌, ◌<◌
 use lib.Seq.{paste}
 use Rattle.numbers.specs.declared.views.ControllerNumber.{ControllerNumber}
 use Rattle.entries.specs.declared.book.Entry.{Entry}
-use Rattle.entries.specs.declared.book.Message.{Message}
-use Rattle.cabinet.specs.declared.cells.Cell.{Cell}
-use Rattle.forming.specs.declared.members.Member.{Member}
+use Rattle.entries.specs.declared.messages.Message.{Message}
+use Rattle.cabinet.specs.Cells.{Cell}
+use Rattle.numbers.specs.declared.members.Member.{Member}
 use Rattle.controller.specs.declared.faults.Fault.{Fault as Stopped}
 use Rattle.controller.specs.declared.outcomes.Outcome.{Outcome}
 use Rattle.controller.specs.declared.outcomes.Outcome.TheVariants.{Done}

@@ -4,9 +4,9 @@ use borrow.Rule.Slice.PartMut.{put_mid}
 use Rattle.std.proofs.lemmas.List.{set-get_or}
 use Rattle.numbers.specs.declared.views.ControllerNumber.{ControllerNumber}
 use Rattle.entries.specs.declared.book.Entry.{Entry}
-use Rattle.entries.specs.declared.book.Message.{Message}
-use Rattle.cabinet.specs.declared.cells.Cell.{Cell}
-use Rattle.forming.specs.declared.members.Member.{Member}
+use Rattle.entries.specs.declared.messages.Message.{Message}
+use Rattle.cabinet.specs.Cells.{Cell}
+use Rattle.numbers.specs.declared.members.Member.{Member}
 use Rattle.controller.specs.declared.faults.Fault.{Fault as Stopped}
 use Rattle.controller.specs.declared.outcomes.Outcome.{Outcome}
 use Rattle.controller.specs.declared.records.Controller.{Controller}

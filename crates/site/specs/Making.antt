@@ -5,8 +5,7 @@ use Rattle.numbers.specs.declared.refusals.Refusal.TheVariants.{CellsUsed, NotMa
 use Rattle.numbers.specs.declared.rows.Row.{Row}
 use Rattle.numbers.specs.Rows.{zero_row}
 use Rattle.numbers.specs.Views.{controller_of, same_view}
-use Rattle.cabinet.specs.declared.cells.Cell.{Cell}
-use Rattle.cabinet.specs.Cells.{cell_at}
+use Rattle.cabinet.specs.Cells.{Cell, cell_at}
 use Rattle.controller.specs.declared.records.Controller.{Controller}
 use Rattle.controller.specs.Questions.{ask, asks}
 use Rattle.controller.specs.Records.{down_record, first_record}

@@ -4,11 +4,11 @@ use Rattle.numbers.specs.declared.refusals.Refusal.TheVariants.{NoSuchController
 use Rattle.numbers.specs.declared.views.ControllerNumber.{ControllerNumber}
 use Rattle.numbers.specs.declared.refusals.Refusal.{Refusal}
 use Rattle.entries.specs.declared.book.Entry.{Entry}
-use Rattle.entries.specs.declared.book.Message.{Message}
-use Rattle.entries.specs.declared.book.Reply.{Reply}
-use Rattle.cabinet.specs.declared.cells.Cell.{Cell}
-use Rattle.forming.specs.declared.members.Member.{Member}
-use Rattle.forming.specs.Members.{is_member}
+use Rattle.entries.specs.declared.messages.Message.{Message}
+use Rattle.entries.specs.declared.messages.Reply.{Reply}
+use Rattle.cabinet.specs.Cells.{Cell}
+use Rattle.numbers.specs.declared.members.Member.{Member}
+use Rattle.numbers.specs.Members.{is_member}
 use Rattle.controller.specs.declared.records.Controller.{Controller}
 use Rattle.controller.specs.declared.records.Status.TheVariants.{Manager}
 use Rattle.controller.specs.Actions.{Own}

@@ -3,8 +3,8 @@ use Rattle.std.specs.Prelude.{ℕ, ◌-◌, not, List, [], ◌∷◌, Some, None
 use Rattle.numbers.specs.declared.refusals.Refusal.{Refusal}
 use Rattle.numbers.specs.declared.refusals.Refusal.TheVariants.{BadMessage, NoSuchController, NoSuchMessage, NotMade}
 use Rattle.numbers.specs.declared.views.ControllerNumber.{ControllerNumber}
-use Rattle.entries.specs.declared.book.Message.{Message}
-use Rattle.forming.specs.Members.{is_member}
+use Rattle.entries.specs.declared.messages.Message.{Message}
+use Rattle.numbers.specs.Members.{is_member}
 use Rattle.controller.specs.declared.faults.Fault.{Fault as Stopped}
 use Rattle.controller.specs.declared.outcomes.Outcome.{Outcome}
 use Rattle.controller.specs.declared.outcomes.Outcome.TheVariants.{Delivered, Done as Taken}

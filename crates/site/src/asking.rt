@@ -5,8 +5,7 @@ ghost use Rattle.site.specs.States.{IsMember, IsPair, MemberFails, PairFails, ma
 use crate::faults::Fault;
 use crate::records::Site;
 use entries::{Entry, Message};
-use forming::Member;
-use numbers::{ControllerNumber, Refusal};
+use numbers::{ControllerNumber, Member, Refusal};
 use std::ops::Range;
 
 impl Site {

@@ -1,6 +1,6 @@
 //! Messages of the pool: one is delivered, or lost.
 ghost use Rattle.std.specs.Prelude.{◌≡◌, ◌*◌, true, List, length, Some, Ok, MatchResult};
-ghost use Rattle.cabinet.specs.declared.cells.Cell.{Cell};
+ghost use Rattle.cabinet.specs.Cells.{Cell};
 ghost use Rattle.controller.specs.declared.outcomes.Outcome.TheVariants.{Delivered, Done};
 ghost use Rattle.controller.specs.Actions.{as_outcome};
 ghost use Rattle.controller.specs.Deliveries.{deliver as delivers};
@@ -11,8 +11,7 @@ use crate::faults::Fault;
 use crate::records::Site;
 use cabinet::Cabinet;
 use entries::{Entry, Message};
-use forming::Member;
-use numbers::Refusal;
+use numbers::{Member, Refusal};
 
 impl Site {
     // Whether the pool has a message j.

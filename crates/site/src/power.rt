@@ -1,6 +1,6 @@
 //! A power cut, and the recovery from it.
 ghost use Rattle.std.specs.Prelude.{◌≡◌, List};
-ghost use Rattle.cabinet.specs.declared.cells.Cell.{Cell};
+ghost use Rattle.cabinet.specs.Cells.{Cell};
 ghost use Rattle.controller.specs.declared.outcomes.Outcome.TheVariants.{Done};
 ghost use Rattle.controller.specs.Actions.{as_outcome};
 ghost use Rattle.controller.specs.Power.{crash as crashes, recover as recovers};

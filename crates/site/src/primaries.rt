@@ -1,6 +1,6 @@
 //! What a primary does with its book, and what any active controller answers from it.
 ghost use Rattle.std.specs.Prelude.{◌≡◌, List};
-ghost use Rattle.cabinet.specs.declared.cells.Cell.{Cell};
+ghost use Rattle.cabinet.specs.Cells.{Cell};
 ghost use Rattle.controller.specs.declared.outcomes.Outcome.TheVariants.{Answered, Changed, Done};
 ghost use Rattle.controller.specs.Actions.{as_outcome};
 ghost use Rattle.controller.specs.Lookups.{lookup as looks_up};

@@ -1,7 +1,7 @@
 //! Calling a view, inviting to it and forming it.
 ghost use Rattle.std.specs.Prelude.{◌≡◌, List, Option, take};
-ghost use Rattle.entries.specs.declared.book.Reply.{Reply};
-ghost use Rattle.cabinet.specs.declared.cells.Cell.{Cell};
+ghost use Rattle.entries.specs.declared.messages.Reply.{Reply};
+ghost use Rattle.cabinet.specs.Cells.{Cell};
 ghost use Rattle.controller.specs.declared.outcomes.Outcome.TheVariants.{Done, Formed};
 ghost use Rattle.controller.specs.Actions.{as_outcome};
 ghost use Rattle.controller.specs.ViewChanges.{call as calls, form as forms, invite as invites};

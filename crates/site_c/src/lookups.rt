@@ -1,13 +1,12 @@
 //! A list of questions put to one book; how many are answered with green.
 ghost use Rattle.std.specs.Prelude.{◌≡◌, ◌⊎◌, ◌≤◌, length, map, take};
-ghost use Rattle.forming.specs.Counting.{count as count_of};
+ghost use Rattle.numbers.specs.Counting.{count as count_of};
 ghost use Rattle.entries.specs.Says.{card_says, hours_says};
 ghost use Rattle.entries.specs.declared.kinds.Answer.TheVariants.{Green, Red};
 ghost use Rattle.site_c.specs.Lookups.{answers_green, card_entry, hours_entry};
 
 use entries::{Answer, CardChange, Entry, HoursChange, Kind, Question, lookup};
-use forming::count;
-use numbers::View;
+use numbers::{View, count};
 use std::alloc::{AllocError, Global};
 
 /// An entry as five numbers: its view's two, and its change's three.

@@ -3,7 +3,7 @@
 ghost use Rattle.std.specs.Prelude.{◌≡◌, true, false, [], ◌∷◌, Some, None};
 ghost use Rattle.numbers.specs.Majorities.{majority_of};
 ghost use Rattle.numbers.specs.Views.{earlier, view_of};
-ghost use Rattle.entries.specs.declared.book.Reply.TheVariants.{Normal, Crash};
+ghost use Rattle.entries.specs.declared.messages.Reply.TheVariants.{Normal, Crash};
 ghost use Rattle.cabinet.specs.Slots.{slot_bytes};
 ghost use Rattle.forming.specs.Rules.{choice as choice_of};
 

@@ -1,5 +1,5 @@
 use Rattle.std.proofs.Common.{[], Ok, rules}
-use Rattle.entries.specs.declared.book.Body.TheVariants.{Form}
+use Rattle.entries.specs.declared.messages.Body.TheVariants.{Form}
 use Rattle.controller.specs.declared.records.Status.TheVariants.{Waiting}
 use Rattle.controller.specs.Actions.{own}
 use Rattle.controller.specs.Messages.{message}

@@ -5,8 +5,7 @@ use Rattle.std.specs.List.{list_all, range_with_len}
 use Rattle.std.proofs.lemmas.Iterator.{YieldsList-from_range}
 use Rattle.std.proofs.lemmas.Iterator.Search.{all_from_yields_List}
 use Rattle.numbers.specs.Rows.{zero_row}
-use Rattle.cabinet.specs.declared.cells.Cell.{Cell}
-use Rattle.cabinet.specs.Cells.{cell_at}
+use Rattle.cabinet.specs.Cells.{Cell, cell_at}
 use Rattle.site.specs.Making.{cells_zero, same_row}
 use Rattle.site.proofs.making.cells_are_zero.Goals as goal
 

@@ -1,5 +1,5 @@
 use Rattle.std.proofs.Common.{take, ap, ◌∙◌, rules}
-use Rattle.forming.specs.Counting.{count}
+use Rattle.numbers.specs.Counting.{count}
 use Rattle.site_c.specs.Lookups.{answers_green}
 use Rattle.site_c.proofs.Cut.{cut_is}
 use Rattle.site_c.proofs.lookups.greens.Goals as goal

@@ -5,7 +5,7 @@ use Rattle.std.proofs.lemmas.List.{map-id}
 use Rattle.std.proofs.lemmas.Result.{IfOk-at_ok}
 use Rattle.entries.specs.Says.{card_says}
 use Rattle.entries.specs.declared.kinds.Answer.TheVariants.{Red}
-use Rattle.forming.specs.Counting.{count}
+use Rattle.numbers.specs.Counting.{count}
 use Rattle.site_c.specs.Lookups.{answers_green, card_entry}
 use Rattle.site_c.proofs.lookups.site_c_lookup_cards.Goals as goal
 
