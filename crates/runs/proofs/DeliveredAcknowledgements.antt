@@ -95,7 +95,6 @@ module _ {E : Type 0} (says : E → Question → Option Light) (unsettled : Ligh
     by : Member (the_message x) m.pool → a.number < n → c.number < n
         → (st : Status) → (row s c).status ≡ st → Goal (effect_of c (has_room s) (share s c) (takes_by x c (share s c) st (Acknowledgement l)))
     by member sender below (Primary lengths) e = shown_split says unsettled n blank s h j x (takes_acknowledgement x c (share s c) lengths l) (stays run bond) (λ ys room put. noted member sender below lengths e ys.0 ys.1.0)
-
     by member sender below Backup e = stays run bond
     by member sender below st e = stays run bond
 

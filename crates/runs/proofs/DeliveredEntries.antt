@@ -119,7 +119,6 @@ module _ {E : Type 0} (says : E → Question → Option Light) (unsettled : Ligh
         → (st : Status) → (row s c).status ≡ st → Goal (effect_of c (has_room s) (share s c) (takes_by x c (share s c) st (Carries k e)))
     by member below ok Backup is = took (λ same next room. followed member below ok is same next room)
     by member below ok (Primary lengths) is = took (λ same next room. absurd (no_entry member below lengths is same next))
-
     by member below ok st is = stays run bond
 
     takes : Takes says unsettled n blank s h j m x

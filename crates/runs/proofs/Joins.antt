@@ -91,10 +91,10 @@ module _ {E : Type 0} (says : E → Question → Option Light) (unsettled : Ligh
           complete = refl;
           primary = refl;
           log = record {
-          len = led.log.len ∙ sym log_long;
-          within = omega (arith, copied_long log (book s i) may.fits, may.fits);
-          same = λ j e lt at. led.log.same j e (omega arith) (sym (copied_item (row s p).length (book s p) (book s i) led.log.within j lt) ∙ at);
-          small = λ j e lt at. led.log.small j e (omega arith) (sym (copied_item (row s p).length (book s p) (book s i) led.log.within j lt) ∙ at);
+            len = led.log.len ∙ sym log_long;
+            within = omega (arith, copied_long log (book s i) may.fits, may.fits);
+            same = λ j e lt at. led.log.same j e (omega arith) (sym (copied_item (row s p).length (book s p) (book s i) led.log.within j lt) ∙ at);
+            small = λ j e lt at. led.log.small j e (omega arith) (sym (copied_item (row s p).length (book s p) (book s i) led.log.within j lt) ∙ at);
           };
           own = tt;
         }) in
@@ -110,18 +110,18 @@ module _ {E : Type 0} (says : E → Question → Option Light) (unsettled : Ligh
     sim_join =
         between_split (λ (d : Done (Outcome E) E). Simulated says unsettled n blank d.state h) s i (join p (row s p) log) (λ f. stays run bond) n bond.sizes.size p
         (λ low low_p zs room put.
-          let views = zs.1.1.1.1.1 in
-          joining
-          (record {
-            low = low;
-            low_p = low_p;
-            alive = zs.0;
-            alive_p = zs.1.0;
-            waits_so = zs.1.1.0;
-            leads_so = zs.1.1.1.1.0;
-            same = views.0;
-            later = views.1.0;
-            fits = omega (arith, leb-true (length log) (cap_of (book s i)) views.1.1.0);
-            room = ltb-true s.site.count (length s.pool) room.0;
-          })
-          put)
+        let views = zs.1.1.1.1.1 in
+        joining
+        (record {
+          low = low;
+          low_p = low_p;
+          alive = zs.0;
+          alive_p = zs.1.0;
+          waits_so = zs.1.1.0;
+          leads_so = zs.1.1.1.1.0;
+          same = views.0;
+          later = views.1.0;
+          fits = omega (arith, leb-true (length log) (cap_of (book s i)) views.1.1.0);
+          room = ltb-true s.site.count (length s.pool) room.0;
+        })
+        put)

@@ -6,8 +6,8 @@ mod guarantees;
 mod playing;
 mod steps;
 
+pub use controller::Outcome;
 pub use example_runs::guarantee_is_not_empty;
 pub use guarantees::confirmed_changes_stand;
 pub use playing::{resume, run};
-pub use controller::Outcome;
 pub use steps::{Step, Turn};
