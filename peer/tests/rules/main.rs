@@ -1,5 +1,6 @@
-//! The tests of the package, in one program: examples, single questions, reports, occurrence, guarantee.
+//! The tests of the package, in one program: examples, single questions, reports, occurrence, guarantee, availability.
 
+mod availability;
 mod bench;
 mod examples;
 mod guarantee;
