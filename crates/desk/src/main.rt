@@ -4,9 +4,9 @@
 use cabinet::{Strip, Tray};
 use entries::{CardChange, HoursChange};
 use kinds::Written;
-use orders::{KindName, Setup, Store};
 use script::Script;
 use serving::{Desk, serve};
+use setup::{KindName, Setup, Store};
 use std::alloc::Global;
 use std::env;
 use std::fs::File;
@@ -22,6 +22,7 @@ mod orders;
 mod report;
 mod script;
 mod serving;
+mod setup;
 mod showing;
 mod spelling;
 mod statement;
@@ -52,7 +53,7 @@ fn open<E: Written, R: BufRead + Drop, O: Write>(
 fn work<R: Read + Drop, O: Write>(heap: Global, source: R, out: &mut O) -> Result<(), Trouble> {
     let mut script = Script::new(BufReader::new(heap, source)?, heap);
     let Some(setup) = script.next::<Setup>()? else {
-        return Err(script.expected(orders::SITE));
+        return Err(script.expected(setup::FORM));
     };
     match setup.kind {
         KindName::Cards => open::<CardChange, _, _>(heap, setup, &mut script, out),

@@ -1,196 +1,100 @@
-//! What a line of a script says.
+//! The lines of a script after the first, in one table.
 use crate::kinds::Written;
+use crate::script::Said;
+use crate::spelling::Spelled;
+use crate::troubles::Expected::{Number, Numbers, Words as Line};
+use crate::troubles::Trouble;
 use crate::words::Words;
 use runs::Step;
-use thiserror::Error;
 
-/// What was expected of a line, as a trouble says it.
-#[derive(Clone, Copy, Debug, Drop, Error)]
-pub enum Expected {
-    #[error("{0}")]
-    Words(&'static str),
-    /// a line with one number
-    #[error("{0}, with a number from 0 to 65535")]
-    Number(&'static str),
-    /// a line with more
-    #[error("{0}, with numbers from 0 to 65535")]
-    Numbers(&'static str),
-    #[error("a line of at most 65536 bytes")]
-    ShortLine,
-}
-
-pub const SITE: Expected = Expected::Words(
-    "site KIND N CAP POOL tray W or site KIND N CAP POOL strip BYTES, with cards or hours as KIND and numbers from 0 to 65535",
-);
-
-const STEP: Expected = Expected::Words(
-    "change, pass, call, invite, form, deliver, join, settle, lookup, crash, recover, lose or show",
-);
-
-#[derive(Clone, Copy)]
-pub enum Store {
-    /// the writes left of each cell
-    Tray { left: u16 },
-    Strip { bytes: u16 },
-}
-
-#[derive(Clone, Copy)]
-pub enum KindName {
-    Cards,
-    Hours,
-}
-
-/// The line that makes the site.
-#[derive(Clone, Copy)]
-pub struct Setup {
-    pub kind: KindName,
-    pub n: u16,
-    pub cap: u16,
-    pub room: u16,
-    pub store: Store,
-}
-
-/// Any other line that says something.
+/// What a line asks for: a step of the site, or what the desk does by itself.
 #[derive(Drop)]
 pub enum Order<E> {
-    Show,
     Step { step: Step<E> },
+    Show,
 }
 
-fn read_kind(words: &mut Words) -> Option<KindName> {
-    match words.word()? {
-        "cards" => Some(KindName::Cards),
-        "hours" => Some(KindName::Hours),
-        _ => None,
-    }
-}
-
-fn read_store(words: &mut Words) -> Option<Store> {
-    match words.word()? {
-        "tray" => Some(Store::Tray {
-            left: words.number()?,
-        }),
-        "strip" => Some(Store::Strip {
-            bytes: words.number()?,
-        }),
-        _ => None,
-    }
-}
-
-// A step of one controller, by its word and the words after it.
-fn controller_step<E: Written>(word: &str, words: &mut Words) -> Option<Step<E>> {
-    let i = words.controller()?;
-    Some(match word {
-        "change" => Step::Change {
-            i,
-            x: E::read(words)?,
-        },
-        "pass" => Step::Pass {
-            i,
-            to: words.controller()?,
-            place: words.place()?,
-        },
-        "call" => Step::Call { i },
-        "invite" => Step::Invite {
-            i,
-            to: words.controller()?,
-        },
-        "form" => Step::Form { i },
-        "join" => Step::Join {
-            i,
-            primary: words.controller()?,
-        },
-        "settle" => Step::Settle {
-            i,
-            stamp: words.stamp()?,
-        },
-        "lookup" => Step::Lookup {
-            i,
-            question: words.question()?,
-        },
-        "crash" => Step::Crash { i },
-        "recover" => Step::Recover { i },
-        _ => return None,
-    })
-}
-
-/// What a line may say.
-pub trait Said: Drop + Sized {
-    /// What it says by its first word and those after it.
-    fn after(word: &str, words: &mut Words) -> Option<Self>;
-
-    /// The line that a first word begins.
-    fn form(word: &str) -> Expected;
-}
-
-/// The first line that says something.
-impl Said for Setup {
-    fn after(word: &str, words: &mut Words) -> Option<Setup> {
-        if word != "site" {
-            return None;
+// The table, which it hands to a macro beside what else that is given. A row has a line's first word, the line's form,
+// and what the line asks for, with the reader of each part. What is reported of a step begins with the word of its row.
+macro_rules! table {
+    ($macro:ident $given:tt) => {
+        $macro! { $given
+            steps {
+                "change" Numbers(E::FORM) => Change { i: controller, x: change };
+                "pass" Numbers("pass I B K") => Pass { i: controller, to: controller, place: place };
+                "call" Number("call I") => Call { i: controller };
+                "invite" Numbers("invite I B") => Invite { i: controller, to: controller };
+                "form" Number("form I") => Form { i: controller };
+                "deliver" Number("deliver J") => Deliver { message: number };
+                "join" Numbers("join I P") => Join { i: controller, primary: controller };
+                "settle" Numbers("settle I COUNT CONTROLLER PLACE") => Settle { i: controller, stamp: stamp };
+                "lookup" Numbers("lookup I A B") => Lookup { i: controller, question: question };
+                "crash" Number("crash I") => Crash { i: controller };
+                "recover" Number("recover I") => Recover { i: controller };
+                "lose" Number("lose J") => Lose { message: number };
+            }
+            others {
+                "show" Line("show, with nothing after it") => Show {};
+            }
         }
-        Some(Setup {
-            kind: read_kind(words)?,
-            n: words.number()?,
-            cap: words.number()?,
-            room: words.number()?,
-            store: read_store(words)?,
-        })
-    }
-
-    fn form(_word: &str) -> Expected {
-        SITE
-    }
+    };
 }
 
-/// Any later line.
+// Reads the words after a first one, by the row of that.
+macro_rules! read_row {
+    (($first:ident, $words:ident)
+        steps { $($word:literal $form:expr => $step:ident { $($part:ident: $reader:ident),* };)+ }
+        others { $($name:literal $shape:expr => $order:ident { $($piece:ident: $taker:ident),* };)+ }
+    ) => {
+        match $first {
+            $($word => {
+                let step = Step::$step { $($part: $words.$reader($form)?),* };
+                $words.end($form)?;
+                Ok(Order::Step { step })
+            })+
+            $($name => {
+                let order = Order::$order { $($piece: $words.$taker($shape)?),* };
+                $words.end($shape)?;
+                Ok(order)
+            })+
+            _ => Err($words.misfit(Line(listed!($($word),+, $($name),+)))),
+        }
+    };
+}
+
+// The word of a step's row.
+macro_rules! word_of {
+    (($given:expr)
+        steps { $($word:literal $form:expr => $step:ident $parts:tt;)+ }
+        others $others:tt
+    ) => {
+        match $given {
+            $(Step::$step { .. } => $word,)+
+        }
+    };
+}
+
+// Words as one text, `a, b or c`. In brackets is what the text has so far.
+macro_rules! listed {
+    ([$($text:literal),+] $last:literal) => {
+        concat!($($text),+, " or ", $last)
+    };
+    ([$($text:literal),+] $next:literal, $($more:literal),+) => {
+        listed!([$($text),+, ", ", $next] $($more),+)
+    };
+    ($first:literal, $($more:literal),+) => {
+        listed!([$first] $($more),+)
+    };
+}
+
 impl<E: Written> Said for Order<E> {
-    fn after(word: &str, words: &mut Words) -> Option<Order<E>> {
-        let step = match word {
-            "show" => return Some(Order::Show),
-            "deliver" => Step::Deliver {
-                message: words.number()?,
-            },
-            "lose" => Step::Lose {
-                message: words.number()?,
-            },
-            _ => controller_step(word, words)?,
-        };
-        Some(Order::Step { step })
-    }
-
-    fn form(word: &str) -> Expected {
-        match word {
-            "change" => Expected::Numbers(E::FORM),
-            "pass" => Expected::Numbers("pass I B K"),
-            "call" => Expected::Number("call I"),
-            "invite" => Expected::Numbers("invite I B"),
-            "form" => Expected::Number("form I"),
-            "deliver" => Expected::Number("deliver J"),
-            "join" => Expected::Numbers("join I P"),
-            "settle" => Expected::Numbers("settle I COUNT CONTROLLER PLACE"),
-            "lookup" => Expected::Numbers("lookup I A B"),
-            "crash" => Expected::Number("crash I"),
-            "recover" => Expected::Number("recover I"),
-            "lose" => Expected::Number("lose J"),
-            "show" => Expected::Words("show, with nothing after it"),
-            _ => STEP,
-        }
+    fn read(first: &str, words: &mut Words) -> Result<Order<E>, Trouble> {
+        table!(read_row(first, words))
     }
 }
 
-/// What a line says, by all of its words; none where it has no word. One that is no text has no first
-/// word that anybody knows.
-pub fn read<T: Said>(text: Option<&str>) -> Result<Option<T>, Expected> {
-    let Some(text) = text else {
-        return Err(T::form(""));
-    };
-    let mut words = Words::new(text);
-    let Some(word) = words.word() else {
-        return Ok(None);
-    };
-    match T::after(word, &mut words) {
-        Some(said) if words.is_done() => Ok(Some(said)),
-        _ => Err(T::form(word)),
+impl<E: Copy> Spelled for Step<E> {
+    fn word(&self) -> &'static str {
+        table!(word_of(self))
     }
 }

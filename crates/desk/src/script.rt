@@ -1,12 +1,17 @@
 //! The lines of a script, counted, without their ends and comments.
-use crate::orders;
-use crate::orders::{Expected, Said};
-use crate::troubles::Trouble;
+use crate::troubles::{Expected, Trouble};
+use crate::words::Words;
 use std::alloc::Global;
 use std::io::{BufRead, Read};
 
 // A line has at most so many bytes, its line feed not counted.
 const LONGEST: usize = 65_536;
+
+/// What a line may say.
+pub trait Said: Drop + Sized {
+    /// What it says by its first word and those after it, all of them.
+    fn read(first: &str, words: &mut Words) -> Result<Self, Trouble>;
+}
 
 #[derive(Drop)]
 pub struct Script<R> {
@@ -59,14 +64,23 @@ impl<R: BufRead + Drop> Script<R> {
             let Some(line) = self.line()? else {
                 break;
             };
-            match orders::read(text(line.as_slice())) {
-                Ok(None) => {}
-                Ok(said) => return Ok(said),
-                Err(expected) => return Err(self.expected(expected)),
+            if let Some(said) = read(text(line.as_slice()), self.number)? {
+                return Ok(Some(said));
             }
         }
         Ok(None)
     }
+}
+
+// What the line of this number says; none where it has no word. One that is no text has no first word that anybody
+// knows.
+fn read<T: Said>(text: Option<&str>, number: u64) -> Result<Option<T>, Trouble> {
+    let mut words = Words::new(text.unwrap_or_default(), number);
+    let first = match (text, words.next()) {
+        (Some(_), None) => return Ok(None),
+        (_, first) => first.unwrap_or_default(),
+    };
+    T::read(first, &mut words).map(Some)
 }
 
 // What stands before the first '#'.

@@ -2,9 +2,10 @@
 use crate::cabinets::Shown;
 use crate::kinds::Written;
 use crate::memory::blanks;
-use crate::orders::{Order, Setup};
+use crate::orders::Order;
 use crate::report::Line;
 use crate::script::Script;
+use crate::setup::Setup;
 use crate::showing::show;
 use crate::statement::Statement;
 use crate::troubles::Trouble;

@@ -1,29 +1,9 @@
 //! The words of a report for what the library names.
 use controller::{Status, Verdict};
 use entries::{Answer, Body, Reply};
-use runs::Step;
 
 pub trait Spelled {
     fn word(&self) -> &'static str;
-}
-
-impl<E: Copy> Spelled for Step<E> {
-    fn word(&self) -> &'static str {
-        match self {
-            Step::Change { .. } => "change",
-            Step::Pass { .. } => "pass",
-            Step::Call { .. } => "call",
-            Step::Invite { .. } => "invite",
-            Step::Form { .. } => "form",
-            Step::Deliver { .. } => "deliver",
-            Step::Join { .. } => "join",
-            Step::Settle { .. } => "settle",
-            Step::Lookup { .. } => "lookup",
-            Step::Crash { .. } => "crash",
-            Step::Recover { .. } => "recover",
-            Step::Lose { .. } => "lose",
-        }
-    }
 }
 
 /// The kind of a message.

@@ -1,8 +1,22 @@
 //! Why the desk stopped.
-use crate::orders::Expected;
 use std::alloc::AllocError;
 use std::io;
 use thiserror::Error;
+
+/// What was expected of a line, as a trouble says it.
+#[derive(Clone, Copy, Debug, Drop, Error)]
+pub enum Expected {
+    #[error("{0}")]
+    Words(&'static str),
+    /// a line with one number
+    #[error("{0}, with a number from 0 to 65535")]
+    Number(&'static str),
+    /// a line with more
+    #[error("{0}, with numbers from 0 to 65535")]
+    Numbers(&'static str),
+    #[error("a line of at most 65536 bytes")]
+    ShortLine,
+}
 
 #[derive(Debug, Drop, Error)]
 pub enum Trouble {
