@@ -94,30 +94,11 @@ module _ {E : Type 0} where
       handed_by_same : (x : Event E) (y : model.Event E) → EventR says unsettled x y → handed_by t x ≡ theorem.handed_by (code t.view) k y
       handed_by_same (handed u x) (model.handed w j y) r =
           ap (λ b. cond b (x ∷ []) []) (stamp_code u t w j k r.0 r.1 small r.2 place) ∙ ap (λ z. cond (eqb w (code t.view) && eqb j k) (z ∷ []) []) r.3
-      handed_by_same (handed u x) (model.opening w l f) r = absurd r
-      handed_by_same (handed u x) (model.looked_up w l f) r = absurd r
-      handed_by_same (handed u x) (model.confirmed w l f) r = absurd r
-      handed_by_same (handed u x) (model.lost w z l) r = absurd r
-      handed_by_same (opened v b) (model.handed w j y) r = absurd r
       handed_by_same (opened v b) (model.opening w l f) r = refl
-      handed_by_same (opened v b) (model.looked_up w l f) r = absurd r
-      handed_by_same (opened v b) (model.confirmed w l f) r = absurd r
-      handed_by_same (opened v b) (model.lost w z l) r = absurd r
-      handed_by_same (confirmed u v b) (model.handed w j y) r = absurd r
-      handed_by_same (confirmed u v b) (model.opening w l f) r = absurd r
-      handed_by_same (confirmed u v b) (model.looked_up w l f) r = absurd r
       handed_by_same (confirmed u v b) (model.confirmed w l f) r = refl
-      handed_by_same (confirmed u v b) (model.lost w z l) r = absurd r
-      handed_by_same (lost u) (model.handed w j y) r = absurd r
-      handed_by_same (lost u) (model.opening w l f) r = absurd r
-      handed_by_same (lost u) (model.looked_up w l f) r = absurd r
-      handed_by_same (lost u) (model.confirmed w l f) r = absurd r
       handed_by_same (lost u) (model.lost w z l) r = refl
-      handed_by_same (looked_up v b q a) (model.handed w j y) r = absurd r
-      handed_by_same (looked_up v b q a) (model.opening w l f) r = absurd r
       handed_by_same (looked_up v b q a) (model.looked_up w l f) r = refl
-      handed_by_same (looked_up v b q a) (model.confirmed w l f) r = absurd r
-      handed_by_same (looked_up v b q a) (model.lost w z l) r = absurd r
+      handed_by_same x y r = absurd r
 
       handed_with_same : (h : List (Event E)) (H : List (model.Event E)) → HistoryR says unsettled h H → handed_with t h ≡ theorem.handed_with (code t.view) k H
       handed_with_same [] [] r = refl
@@ -140,9 +121,6 @@ module _ {E : Type 0} where
       at_confirmed t w before mem = let it = related (confirmed t w before) h m.history histories mem in by it.0 it.1 it.2
         where
           by : (y : model.Event E) → Member y m.history → EventR says unsettled (confirmed t w before) y → AtConfirmed t w before
-          by (model.handed v j y) noted r = absurd r
-          by (model.opening v l f) noted r = absurd r
-          by (model.looked_up v l f) noted r = absurd r
           by (model.confirmed v k f) noted r =
               record {
                 k = k;
@@ -151,7 +129,7 @@ module _ {E : Type 0} where
                 noted = subst (λ z. Member (model.confirmed z k f) m.history) r.0 noted;
                 is = record { small = r.2; place = r.3; least = r.4; front = r.5; last = r.6 };
               }
-          by (model.lost v z k) noted r = absurd r
+          by y noted r = absurd r
 
       record AtBook (v : View) (book : List (Entry E)) (Noted : ℕ → ℕ → (ℕ → model.Entry E) → Type 0) : Type 0 where
         l : ℕ
@@ -164,11 +142,8 @@ module _ {E : Type 0} where
       at_opened v book mem = let it = related (opened v book) h m.history histories mem in by it.0 it.1 it.2
         where
           by : (y : model.Event E) → Member y m.history → EventR says unsettled (opened v book) y → AtBook v book (λ w l g. Member (model.opening w l g) m.history)
-          by (model.handed w j y) noted r = absurd r
           by (model.opening w l g) noted r = record { l = l; g = g; small = r.1; noted = subst (λ z. Member (model.opening z l g) m.history) r.0 noted; is = r.2 }
-          by (model.looked_up w l g) noted r = absurd r
-          by (model.confirmed w k g) noted r = absurd r
-          by (model.lost w z k) noted r = absurd r
+          by y noted r = absurd r
 
       at_looked_up : (v : View) (book : List (Entry E)) (q : Question) (a : Light) → Member (looked_up v book q a) h
           → AtBook v book (λ w l g. Member (model.looked_up w l g) m.history) × (a ≡ looked says unsettled book q)
@@ -176,11 +151,8 @@ module _ {E : Type 0} where
         where
           by : (y : model.Event E) → Member y m.history → EventR says unsettled (looked_up v book q a) y
               → AtBook v book (λ w l g. Member (model.looked_up w l g) m.history) × (a ≡ looked says unsettled book q)
-          by (model.handed w j y) noted r = absurd r
-          by (model.opening w l g) noted r = absurd r
           by (model.looked_up w l g) noted r = (record { l = l; g = g; small = r.1; noted = subst (λ z. Member (model.looked_up z l g) m.history) r.0 noted; is = r.2 }, r.3)
-          by (model.confirmed w k g) noted r = absurd r
-          by (model.lost w z k) noted r = absurd r
+          by y noted r = absurd r
 
       record AtLost (t : Stamp) : Type 0 where
         w : ℕ
@@ -192,11 +164,8 @@ module _ {E : Type 0} where
       at_lost t mem = let it = related (lost t) h m.history histories mem in by it.0 it.1 it.2
         where
           by : (y : model.Event E) → Member y m.history → EventR says unsettled (lost t) y → AtLost t
-          by (model.handed w j y) noted r = absurd r
-          by (model.opening w l g) noted r = absurd r
-          by (model.looked_up w l g) noted r = absurd r
-          by (model.confirmed w k g) noted r = absurd r
           by (model.lost w z k) noted r = record { w = w; k = k; place = r.2; noted = subst (λ y. Member (model.lost w y k) m.history) r.0 noted }
+          by y noted r = absurd r
 
       -- The laws
 

@@ -45,10 +45,7 @@ module _ {E : Type 0} (says : E → Question → Option Light) (unsettled : Ligh
 
     handed_by_no_more : (x : Event E) (y : model.Event E) → EventR says unsettled x y → length (handed_by t x) ≤ length (theorem.handed_by v j y)
     handed_by_no_more (handed u x) (model.handed w k y) r = one_if _ _ (same_in_code u t w k r.0 (omega (arith, r.2))) x y
-    handed_by_no_more (handed u x) (model.opening w l f) r = absurd r
-    handed_by_no_more (handed u x) (model.looked_up w l f) r = absurd r
-    handed_by_no_more (handed u x) (model.confirmed w l f) r = absurd r
-    handed_by_no_more (handed u x) (model.lost w z l) r = absurd r
+    handed_by_no_more (handed u x) y r = absurd r
     handed_by_no_more x y r = omega arith
 
     handed_no_more : (h : List (Event E)) (H : List (model.Event E)) → HistoryR says unsettled h H → length (handed_with t h) ≤ length (theorem.handed_with v j H)
@@ -61,10 +58,7 @@ module _ {E : Type 0} (says : E → Question → Option Light) (unsettled : Ligh
   module _ (v : View) where
     openings_by_no_more : (x : Event E) (y : model.Event E) → EventR says unsettled x y → length (openings_by v x) ≤ length (theorem.openings_by (code v) y)
     openings_by_no_more (opened u b) (model.opening w l f) r = one_if _ _ (λ same. eq-eqb w (code v) (r.0 ∙ same_code u v same)) b (model.opening w l f)
-    openings_by_no_more (opened u b) (model.handed w k y) r = absurd r
-    openings_by_no_more (opened u b) (model.looked_up w l f) r = absurd r
-    openings_by_no_more (opened u b) (model.confirmed w l f) r = absurd r
-    openings_by_no_more (opened u b) (model.lost w z l) r = absurd r
+    openings_by_no_more (opened u b) y r = absurd r
     openings_by_no_more x y r = omega arith
 
     openings_no_more : (h : List (Event E)) (H : List (model.Event E)) → HistoryR says unsettled h H → length (openings_of v h) ≤ length (theorem.openings_of (code v) H)
