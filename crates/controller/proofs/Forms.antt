@@ -13,9 +13,9 @@ use Rattle.controller.specs.declared.faults.Fault.TheVariants.{Refused}
 use Rattle.controller.specs.declared.outcomes.Outcome.{Outcome}
 use Rattle.controller.specs.declared.outcomes.Outcome.TheVariants.{Formed}
 use Rattle.controller.specs.declared.records.Status.TheVariants.{Manager}
-use Rattle.controller.specs.Actions.{Own, effect, handed_message, own}
+use Rattle.controller.specs.Actions.{Own, effect, returned_message, own}
 use Rattle.controller.specs.Forms.{FormsByRules, chosen_in}
-use Rattle.controller.specs.Records.{with_status}
+use Rattle.controller.proofs.Statuses.{with_status}
 use Rattle.controller.specs.ViewChanges.{form, form_choice, forms}
 
 Err≢Ok : {A B : Type 0} {x : A} {f : B} → ◌≡◌ {A = Result A B} (Err f) (Ok x) → ⊥
@@ -35,7 +35,7 @@ module _ {E : Type 0} (n : ℕ) (i : ControllerNumber) (o : Own E) (answers : Li
   Out r s = r ≡ s
 
   by_choice : (c : Option ℕ) → choice asked n ≡ c → (room : Bool) (r : Result (Message E) Fault) (o' : Own E)
-      → effect i room manager (λ z y. forms n z y (option_map controller_of c)) ≡ handed_message (λ m. Formed m.addressee) r o' → FormsByRules asked n (chosen_in r)
+      → effect i room manager (λ z y. forms n z y (option_map controller_of c)) ≡ returned_message (λ m. Formed m.addressee) r o' → FormsByRules asked n (chosen_in r)
   by_choice None e room (Ok m) o' gave =
       let is : Out (Err (Refused NoRuleAllows i)) (Ok (Formed m.addressee)) = ap (λ g. g.result) gave in
       absurd (Err≢Ok is)
@@ -59,7 +59,7 @@ module _ {E : Type 0} (n : ℕ) (i : ControllerNumber) (o : Own E) (answers : Li
 
   -- what a manager's form gave is what the rules say
   pub forms_by_rules : (room : Bool) (r : Result (Message E) Fault) (o' : Own E) → o.row.status ≡ Manager answers
-      → effect i room o (form n) ≡ handed_message (λ m. Formed m.addressee) r o' → FormsByRules asked n (chosen_in r)
+      → effect i room o (form n) ≡ returned_message (λ m. Formed m.addressee) r o' → FormsByRules asked n (chosen_in r)
   unfolding form_choice
   forms_by_rules room r o' manages gave =
-      by_choice (choice asked n) refl room r o' (subst (λ s. effect i room (own (with_status o.row s) o.book o.cells) (form n) ≡ handed_message (λ m. Formed m.addressee) r o') manages gave)
+      by_choice (choice asked n) refl room r o' (subst (λ s. effect i room (own (with_status o.row s) o.book o.cells) (form n) ≡ returned_message (λ m. Formed m.addressee) r o') manages gave)

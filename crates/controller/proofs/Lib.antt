@@ -1,3 +1,4 @@
 pub mod Actions
 pub mod Forms
 pub mod Places
+pub mod Statuses

@@ -1,4 +1,4 @@
--- What stands at a place of a list. Assumes nothing.
+-- What stands at a place of a list.
 use Rattle.std.proofs.Common.{◌≡◌, ℕ, zero, suc, ◌-◌, ◌<◌, true, cond, eqb, List, [], ◌∷◌, length, get_or, Some, None, sym, ap, arith, rules}
 use Rattle.controller.specs.Books.{at_place, item}
 

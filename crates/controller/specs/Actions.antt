@@ -91,13 +91,13 @@ as_outcome f (Ok x) = Ok (f x)
 as_outcome f (Err e) = Err e
 
 module _ {E : Type 0} where
-  abbrev pub handed : Result (Outcome E) Fault → Own E → Effect E
-  handed r o = record { result = r; own = o; sent = None }
+  abbrev pub returned : Result (Outcome E) Fault → Own E → Effect E
+  returned r o = record { result = r; own = o; sent = None }
 
-  abbrev pub handed_message : (Message E → Outcome E) → Result (Message E) Fault → Own E → Effect E
-  handed_message f (Ok m) o = record { result = Ok (f m); own = o; sent = Some m }
-  handed_message f (Err e) o = record { result = Err e; own = o; sent = None }
+  abbrev pub returned_message : (Message E → Outcome E) → Result (Message E) Fault → Own E → Effect E
+  returned_message f (Ok m) o = record { result = Ok (f m); own = o; sent = Some m }
+  returned_message f (Err e) o = record { result = Err e; own = o; sent = None }
 
-  abbrev pub handed_reply : Outcome E → Result (Option (Message E)) Fault → Own E → Effect E
-  handed_reply x (Ok m) o = record { result = Ok x; own = o; sent = m }
-  handed_reply x (Err e) o = record { result = Err e; own = o; sent = None }
+  abbrev pub returned_reply : Outcome E → Result (Option (Message E)) Fault → Own E → Effect E
+  returned_reply x (Ok m) o = record { result = Ok x; own = o; sent = m }
+  returned_reply x (Err e) o = record { result = Err e; own = o; sent = None }

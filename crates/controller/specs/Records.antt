@@ -71,10 +71,6 @@ is_active r = active r.status
 abbrev pub is_primary : Controller → Bool
 is_primary r = leading r.status
 
--- the same record with another status
-abbrev pub with_status : Controller → Status → Controller
-with_status r s = record r { status = s }
-
 -- what controller i says of itself to a call: a normal answer if its book is complete, else a crash answer
 abbrev pub reply_of : ControllerNumber → Controller → Reply
 reply_of i r = cond r.complete (Normal r.views.current r.length (r.primary.number == i.number)) (Crash r.views.current)

@@ -71,7 +71,7 @@ with_slip s Confirmed = IsConfirmed
 with_slip s Lost = IsLost
 with_slip s Undecided = StillWaiting s
 
--- what a settle's result is for who brought the slip; a refusal hands it back as well
+-- what a settle's result is for who brought the slip; a refusal hands it back as well. A settle's outcome is always a verdict, so the second row never applies
 abbrev pub settled_by : {E F : Type 0} → Slip → Result (Outcome E) F → Result Settlement (F × Slip)
 settled_by s (Ok (Settled v)) = Ok (with_slip s v)
 settled_by s (Ok x) = Ok (StillWaiting s)

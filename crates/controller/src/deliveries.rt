@@ -5,7 +5,7 @@ ghost use Rattle.controller.specs.Books.{cap_of};
 ghost use Rattle.entries.specs.declared.book.Entry.{Entry};
 ghost use Rattle.cabinet.specs.Cells.{Cell};
 ghost use Rattle.controller.specs.declared.outcomes.Outcome.TheVariants.{Delivered};
-ghost use Rattle.controller.specs.Actions.{effect, handed_reply, own};
+ghost use Rattle.controller.specs.Actions.{effect, returned_reply, own};
 ghost use Rattle.controller.specs.Deliveries.{deliver as delivers, takes, takes_acknowledgement, takes_answer, takes_entry, takes_form, takes_invitation};
 ghost use Rattle.controller.specs.Messages.{body_ok, message_ok, reply_ok, view_below};
 
@@ -78,7 +78,7 @@ fn take_invitation<E: Copy, C: Cabinet>(
     message: Message<E>,
     room: bool,
 ) -> Result<Option<Message<E>>, Fault>
-    ensures { (b : List (Entry E)) → effect me.number room (own row.old b (C.cells cab.old).list) (takes_invitation message) ≡ handed_reply (Delivered message) result (own row.new b (C.cells cab.new).list) }
+    ensures { (b : List (Entry E)) → effect me.number room (own row.old b (C.cells cab.old).list) (takes_invitation message) ≡ returned_reply (Delivered message) result (own row.new b (C.cells cab.new).list) }
 {
     ask(me, row.views.promised < message.view, Refusal::WrongView)?;
     ask(me, room, Refusal::PoolFull)?;
@@ -119,7 +119,7 @@ fn take_answer<E: Copy>(
     reply: Reply,
 ) -> Result<Option<Message<E>>, Fault>
     requires { (message.sender.number < 7) × (is_manager row.old ≡ true) }
-    ensures { (room : Bool) (b : List (Entry E)) (cs : List Cell) → effect me.number room (own row.old b cs) (λ i o. takes_answer message i o (answers_of row.old.status) reply) ≡ handed_reply (Delivered message) result (own row.new b cs) }
+    ensures { (room : Bool) (b : List (Entry E)) (cs : List Cell) → effect me.number room (own row.old b cs) (λ i o. takes_answer message i o (answers_of row.old.status) reply) ≡ returned_reply (Delivered message) result (own row.new b cs) }
 {
     let from = message.sender.number as usize;
     ask(me, message.view == row.views.promised, Refusal::WrongView)?;
@@ -137,7 +137,7 @@ fn take_form<E: Copy, C: Cabinet>(
     cab: &mut C,
     message: Message<E>,
 ) -> Result<Option<Message<E>>, Fault>
-    ensures { (room : Bool) (b : List (Entry E)) → effect me.number room (own row.old b (C.cells cab.old).list) (takes_form message) ≡ handed_reply (Delivered message) result (own row.new b (C.cells cab.new).list) }
+    ensures { (room : Bool) (b : List (Entry E)) → effect me.number room (own row.old b (C.cells cab.old).list) (takes_form message) ≡ returned_reply (Delivered message) result (own row.new b (C.cells cab.new).list) }
 {
     ask(me, message.view == row.views.promised, Refusal::WrongView)?;
     ask(me, row.complete, Refusal::IncompleteBook)?;
@@ -165,7 +165,7 @@ fn take_entry<E: Copy>(
     room: bool,
 ) -> Result<Option<Message<E>>, Fault>
     requires { place.number ≤ cap_of book.old }
-    ensures { (cs : List Cell) → effect me.number room (own row.old book.old cs) (λ i o. takes_entry message i o place entry) ≡ handed_reply (Delivered message) result (own row.new book.new cs) }
+    ensures { (cs : List Cell) → effect me.number room (own row.old book.old cs) (λ i o. takes_entry message i o place entry) ≡ returned_reply (Delivered message) result (own row.new book.new cs) }
 {
     ask(me, message.view == row.views.current, Refusal::WrongView)?;
     ask(
@@ -192,7 +192,7 @@ fn take_acknowledgement<E: Copy>(
     length: u16,
 ) -> Result<Option<Message<E>>, Fault>
     requires { (message.sender.number < 7) × (is_primary row.old ≡ true) }
-    ensures { (room : Bool) (b : List (Entry E)) (cs : List Cell) → effect me.number room (own row.old b cs) (λ i o. takes_acknowledgement message i o (lengths_of row.old.status) length) ≡ handed_reply (Delivered message) result (own row.new b cs) }
+    ensures { (room : Bool) (b : List (Entry E)) (cs : List Cell) → effect me.number room (own row.old b cs) (λ i o. takes_acknowledgement message i o (lengths_of row.old.status) length) ≡ returned_reply (Delivered message) result (own row.new b cs) }
 {
     let from = message.sender.number as usize;
     ask(me, message.view == row.views.current, Refusal::WrongView)?;
@@ -215,7 +215,7 @@ fn take<E: Copy, C: Cabinet>(
     room: bool,
 ) -> Result<Option<Message<E>>, Fault>
     requires { message_ok me.n (cap_of book.old) message ≡ true }
-    ensures { effect me.number room (own row.old book.old (C.cells cab.old).list) (takes message) ≡ handed_reply (Delivered message) result (own row.new book.new (C.cells cab.new).list) }
+    ensures { effect me.number room (own row.old book.old (C.cells cab.old).list) (takes message) ≡ returned_reply (Delivered message) result (own row.new book.new (C.cells cab.new).list) }
 {
     match (row.status, message.body) {
         (Status::Down, _) => Err(refused(me, Refusal::WrongPower)),
@@ -246,7 +246,7 @@ pub fn deliver<E: Copy, C: Cabinet>(
     message: Message<E>,
     room: bool,
 ) -> Result<Option<Message<E>>, Fault>
-    ensures { effect me.number room (own row.old book.old (C.cells cab.old).list) (delivers me.n message) ≡ handed_reply (Delivered message) result (own row.new book.new (C.cells cab.new).list) }
+    ensures { effect me.number room (own row.old book.old (C.cells cab.old).list) (delivers me.n message) ≡ returned_reply (Delivered message) result (own row.new book.new (C.cells cab.new).list) }
 {
     let sizes = Sizes {
         n: me.n(),

@@ -3,7 +3,7 @@ ghost use Rattle.std.specs.Prelude.{◌≡◌, [], Ok, Err};
 ghost use Rattle.controller.specs.Books.{in_use};
 ghost use Rattle.controller.specs.declared.outcomes.Outcome.TheVariants.{Done};
 ghost use Rattle.controller.specs.declared.faults.Fault.TheVariants.{Refused};
-ghost use Rattle.controller.specs.Actions.{effect, handed_message, own};
+ghost use Rattle.controller.specs.Actions.{effect, returned_message, own};
 ghost use Rattle.controller.specs.Joins.{follow as follows, join as joins, join_asks, taken_over};
 ghost use Rattle.controller.specs.Questions.{asks};
 
@@ -29,7 +29,7 @@ pub fn follow<E: Copy, C: Cabinet>(
     log: &[Entry<E>],
     room: bool,
 ) -> Result<Message<E>, Fault>
-    ensures { effect me.number room (own row.old book.now (C.cells cab.old).list) (follows primary view log.now) ≡ handed_message (λ _. Done) result (own row.new (taken_over result log.now book.now) (C.cells cab.new).list) }
+    ensures { effect me.number room (own row.old book.now (C.cells cab.old).list) (follows primary view log.now) ≡ returned_message (λ _. Done) result (own row.new (taken_over result log.now book.now) (C.cells cab.new).list) }
 {
     ask(me, view == row.views.promised, Refusal::WrongView)?;
     ask(me, row.views.current < view, Refusal::WrongView)?;
@@ -83,7 +83,7 @@ pub fn join<E: Copy, C: Cabinet>(
     led_book: &[Entry<E>],
     room: bool,
 ) -> Result<Message<E>, Fault>
-    ensures { effect me.number room (own row.old book.now (C.cells cab.old).list) (joins leader.number led.now (in_use led.now led_book.now)) ≡ handed_message (λ _. Done) result (own row.new (taken_over result (in_use led.now led_book.now) book.now) (C.cells cab.new).list) }
+    ensures { effect me.number room (own row.old book.now (C.cells cab.old).list) (joins leader.number led.now (in_use led.now led_book.now)) ≡ returned_message (λ _. Done) result (own row.new (taken_over result (in_use led.now led_book.now) book.now) (C.cells cab.new).list) }
 {
     may_join(me, row, led)?;
     follow(

@@ -2,7 +2,7 @@
 ghost use Rattle.std.specs.Prelude.{◌≡◌, Bool, List};
 ghost use Rattle.cabinet.specs.Cells.{Cell};
 ghost use Rattle.controller.specs.declared.outcomes.Outcome.TheVariants.{Answered};
-ghost use Rattle.controller.specs.Actions.{as_outcome, effect, handed, own};
+ghost use Rattle.controller.specs.Actions.{as_outcome, effect, returned, own};
 ghost use Rattle.controller.specs.Lookups.{lookup as looks_up};
 
 use crate::books::used;
@@ -19,7 +19,7 @@ pub fn lookup<E: Kind>(
     book: &[Entry<E>],
     question: Question,
 ) -> Result<Answer, Fault>
-    ensures { (room : Bool) (cs : List Cell) → effect me.number room (own row.now book.now cs) (looks_up E.says E.UNSETTLED question) ≡ handed (as_outcome Answered result) (own row.now book.now cs) }
+    ensures { (room : Bool) (cs : List Cell) → effect me.number room (own row.now book.now cs) (looks_up E.says E.UNSETTLED question) ≡ returned (as_outcome Answered result) (own row.now book.now cs) }
 {
     ask(me, row.is_up(), Refusal::WrongPower)?;
     ask(me, row.is_active(), Refusal::WrongStatus)?;

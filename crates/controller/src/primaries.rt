@@ -5,7 +5,7 @@ ghost use Rattle.controller.specs.declared.faults.Fault.TheVariants.{Refused};
 ghost use Rattle.controller.specs.Primaries.{change as changes, pass as passes, primary_asks};
 ghost use Rattle.cabinet.specs.Cells.{Cell};
 ghost use Rattle.controller.specs.Questions.{asks};
-ghost use Rattle.controller.specs.Actions.{as_outcome, effect, handed, handed_message, own};
+ghost use Rattle.controller.specs.Actions.{as_outcome, effect, returned, returned_message, own};
 ghost use Rattle.controller.specs.Slips.{stamp_on};
 
 use crate::books::{append, capacity, entry_at};
@@ -32,7 +32,7 @@ pub fn change<E: Copy>(
     book: &mut [Entry<E>],
     x: E,
 ) -> Result<Slip, Fault>
-    ensures { (room : Bool) (cs : List Cell) → effect me.number room (own row.old book.old cs) (changes x) ≡ handed (as_outcome (λ slip. Changed (stamp_on slip)) result) (own row.new book.new cs) }
+    ensures { (room : Bool) (cs : List Cell) → effect me.number room (own row.old book.old cs) (changes x) ≡ returned (as_outcome (λ slip. Changed (stamp_on slip)) result) (own row.new book.new cs) }
 {
     ask_primary(me, row)?;
     ask(me, row.length < capacity(book), Refusal::BookFull)?;
@@ -51,7 +51,7 @@ pub fn pass<E: Copy>(
     place: Place,
     room: bool,
 ) -> Result<Message<E>, Fault>
-    ensures { (cs : List Cell) → effect me.number room (own row.now book.now cs) (passes to place) ≡ handed_message (λ _. Done) result (own row.now book.now cs) }
+    ensures { (cs : List Cell) → effect me.number room (own row.now book.now cs) (passes to place) ≡ returned_message (λ _. Done) result (own row.now book.now cs) }
 {
     ask_primary(me, row)?;
     let entry = entry_at(row, book, place).ok_or(refused(me, Refusal::DoesNotFit))?;

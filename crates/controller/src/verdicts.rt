@@ -2,7 +2,7 @@
 ghost use Rattle.std.specs.Prelude.{◌≡◌, ℕ, Bool, List, Option};
 ghost use Rattle.cabinet.specs.Cells.{Cell};
 ghost use Rattle.controller.specs.declared.outcomes.Outcome.TheVariants.{Settled as Said};
-ghost use Rattle.controller.specs.Actions.{as_outcome, effect, handed, own};
+ghost use Rattle.controller.specs.Actions.{as_outcome, effect, returned, own};
 ghost use Rattle.controller.specs.Slips.{stamp_on};
 ghost use Rattle.std.specs.Fn.{FnReturnsAt};
 ghost use Rattle.numbers.specs.Counting.{Computes};
@@ -50,7 +50,7 @@ pub fn judge<E: Copy>(
     book: &[Entry<E>],
     stamp: Stamp,
 ) -> Result<Verdict, Fault>
-    ensures { (room : Bool) (cs : List Cell) → effect me.number room (own row.now book.now cs) (settles me.n stamp) ≡ handed (as_outcome Said result) (own row.now book.now cs) }
+    ensures { (room : Bool) (cs : List Cell) → effect me.number room (own row.now book.now cs) (settles me.n stamp) ≡ returned (as_outcome Said result) (own row.now book.now cs) }
 {
     ask_primary(me, row)?;
     ask(me, row.views.current >= stamp.view, Refusal::WrongView)?;

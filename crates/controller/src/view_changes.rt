@@ -4,7 +4,7 @@ ghost use Rattle.entries.specs.declared.book.Entry.{Entry};
 ghost use Rattle.entries.specs.declared.messages.Reply.{Reply as Replied};
 ghost use Rattle.cabinet.specs.Cells.{Cell};
 ghost use Rattle.controller.specs.declared.outcomes.Outcome.TheVariants.{Done, Formed};
-ghost use Rattle.controller.specs.Actions.{as_outcome, effect, handed, handed_message, own};
+ghost use Rattle.controller.specs.Actions.{as_outcome, effect, returned, returned_message, own};
 ghost use Rattle.controller.specs.declared.records.Status.TheVariants.{Manager};
 ghost use Rattle.controller.specs.Forms.{FormsByRules, chosen_in};
 ghost use Rattle.controller.specs.Records.{reply_of};
@@ -37,7 +37,7 @@ pub fn reply(me: Member, row: &Controller) -> Reply
 
 /// Calls the next view of this controller: promises it, and manages it with its own answer counted.
 pub fn call<E, C: Cabinet>(me: Member, row: &mut Controller, cab: &mut C) -> Result<(), Fault>
-    ensures { (room : Bool) (b : List (Entry E)) → effect me.number room (own row.old b (C.cells cab.old).list) calls ≡ handed (as_outcome (λ _. Done) result) (own row.new b (C.cells cab.new).list) }
+    ensures { (room : Bool) (b : List (Entry E)) → effect me.number room (own row.old b (C.cells cab.old).list) calls ≡ returned (as_outcome (λ _. Done) result) (own row.new b (C.cells cab.new).list) }
 {
     ask(me, row.is_up(), Refusal::WrongPower)?;
     let count = row.views.promised.count.number;
@@ -64,7 +64,7 @@ pub fn invite<E>(
     to: ControllerNumber,
     room: bool,
 ) -> Result<Message<E>, Fault>
-    ensures { (b : List (Entry E)) (cs : List Cell) → effect me.number room (own row.now b cs) (invites to) ≡ handed_message (λ _. Done) result (own row.now b cs) }
+    ensures { (b : List (Entry E)) (cs : List Cell) → effect me.number room (own row.now b cs) (invites to) ≡ returned_message (λ _. Done) result (own row.now b cs) }
 {
     ask(me, row.is_up(), Refusal::WrongPower)?;
     ask(me, row.is_manager(), Refusal::WrongStatus)?;
@@ -92,7 +92,7 @@ fn chosen(me: Member, row: &Controller) -> Option<ControllerNumber>
 /// Forms the view by the rules: the chosen controller is to open it, and this one waits.
 pub fn form<E>(me: Member, row: &mut Controller, room: bool) -> Result<Message<E>, Fault>
     ensures rules { (answers : List (Option Replied)) → row.old.status ≡ Manager answers → FormsByRules (take me.n answers) me.n (chosen_in result) }
-    ensures step { (b : List (Entry E)) (cs : List Cell) → effect me.number room (own row.old b cs) (forms me.n) ≡ handed_message (λ m. Formed m.addressee) result (own row.new b cs) }
+    ensures step { (b : List (Entry E)) (cs : List Cell) → effect me.number room (own row.old b cs) (forms me.n) ≡ returned_message (λ m. Formed m.addressee) result (own row.new b cs) }
 {
     ask(me, row.is_up(), Refusal::WrongPower)?;
     ask(me, row.is_manager(), Refusal::WrongStatus)?;

@@ -1,4 +1,4 @@
--- That `going_on` reads plain digits as the library does. Assumes nothing.
+-- That `going_on` reads plain digits as the library does.
 use Rattle.std.proofs.Common.{◌≡◌, true, rules}
 use Rattle.std.specs.Str.{all_ascii_digits}
 use Rattle.std.proofs.lemmas.Str.Parse.{IsNumeralModel, numerals_by_fold, tells_all_ascii_digits}

@@ -1,4 +1,4 @@
--- Numbers as a script writes them: plain digits, up to 65,535. Assumes nothing.
+-- Numbers as a script writes them: plain digits, up to 65,535.
 use Rattle.std.specs.Prelude.{◌≡◌, ℕ, ◌+◌, ◌-◌, ◌*◌, ◌^◌, ◌<◌, true, List, [], ◌∷◌, length, Option, MatchOption}
 use Rattle.std.specs.Str.{all_ascii_digits}
 

@@ -1,6 +1,6 @@
 -- The order of views, and of stamps.
-use Rattle.std.specs.Prelude.{◌≡◌, Bool, true, false, ◌&&◌, ◌||◌, ◌⊎◌, nat_lt}
-use Rattle.std.specs.Ordering.{is_lt}
+use Rattle.std.specs.Prelude.{◌≡◌, Bool, true, false, ◌&&◌, ◌||◌, ◌⊎◌, ◌==◌, nat_lt}
+use Rattle.std.specs.Ordering.{is_eq, is_lt}
 use Rattle.std.specs.declared.cmp.Ordering.{Ordering}
 use Rattle.numbers.specs.declared.views.Stamp.{Stamp}
 use Rattle.numbers.specs.declared.views.View.{View}
@@ -18,6 +18,9 @@ TotalOrder =
 abbrev pub earlier_stamp : Stamp → Stamp → Bool
 earlier_stamp s t = earlier s.view t.view || (same_view s.view t.view && nat_lt s.place.number t.place.number)
 
--- a comparison of stamps puts one before another exactly where it is the earlier one
+abbrev pub same_stamp : Stamp → Stamp → Bool
+same_stamp s t = same_view s.view t.view && s.place.number == t.place.number
+
+-- a comparison of stamps puts one before another exactly where it is the earlier one, and calls two equal exactly where they are one
 abbrev pub OrdersStamps : (Stamp → Stamp → Ordering) → Type 0
-OrdersStamps compare = (s t : Stamp) → is_lt (compare s t) ≡ earlier_stamp s t
+OrdersStamps compare = (s t : Stamp) → (is_lt (compare s t) ≡ earlier_stamp s t) × (is_eq (compare s t) ≡ same_stamp s t)

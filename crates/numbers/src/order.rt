@@ -9,7 +9,7 @@ pub fn views_are_ordered()
     ensures { TotalOrder }
 {}
 
-/// Stamps are ordered, by `<` and as keys, by their views and, in one view, by their places.
+/// As keys, stamps are ordered by their views and, in one view, by their places; two are equal where both are.
 pub fn stamps_are_ordered()
     ensures { OrdersStamps ⟦<Stamp as Ord>⟧.cmp }
 {}

@@ -14,7 +14,8 @@ use Rattle.controller.specs.declared.outcomes.Outcome.{Outcome}
 use Rattle.controller.specs.Actions.{taken}
 use Rattle.controller.specs.Books.{appended, cap_of}
 use Rattle.controller.specs.Primaries.{change}
-use Rattle.controller.specs.Records.{is_primary, is_up, leading, with_status}
+use Rattle.controller.specs.Records.{is_primary, is_up, leading}
+use Rattle.controller.proofs.Statuses.{with_status}
 use Rattle.site.specs.States.{Done, State, book, has_room, row}
 use Rattle.site.specs.Steps.{placed, share}
 use Rattle.protocol.specs.Model as model

@@ -17,7 +17,8 @@ use Rattle.controller.specs.Books.{cap_of}
 use Rattle.controller.specs.Deliveries.{larger, takes_acknowledgement, takes_by}
 use Rattle.controller.specs.Messages.{message}
 use Rattle.controller.specs.Actions.{Effect, effect_of, taken}
-use Rattle.controller.specs.Records.{up, with_status}
+use Rattle.controller.specs.Records.{up}
+use Rattle.controller.proofs.Statuses.{with_status}
 use Rattle.site.specs.States.{State, book, has_room, row}
 use Rattle.site.specs.Steps.{share}
 use Rattle.protocol.specs.Members.{Member}

@@ -19,7 +19,8 @@ use Rattle.controller.specs.Deliveries.{takes_answer, takes_by}
 use Rattle.controller.specs.Messages.{reply_ok, view_below}
 use Rattle.controller.specs.Messages.{message}
 use Rattle.controller.specs.Actions.{Effect, effect_of, taken}
-use Rattle.controller.specs.Records.{up, with_status}
+use Rattle.controller.specs.Records.{up}
+use Rattle.controller.proofs.Statuses.{with_status}
 use Rattle.site.specs.States.{State, book, has_room, row}
 use Rattle.site.specs.Steps.{share}
 use Rattle.protocol.specs.Members.{Member}

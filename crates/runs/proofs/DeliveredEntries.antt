@@ -19,7 +19,8 @@ use Rattle.controller.specs.Deliveries.{takes_by, takes_entry}
 use Rattle.controller.specs.Messages.{body_ok, view_below}
 use Rattle.controller.specs.Messages.{message}
 use Rattle.controller.specs.Actions.{Effect, effect_of, own, taken}
-use Rattle.controller.specs.Records.{is_up, up, with_status}
+use Rattle.controller.specs.Records.{is_up, up}
+use Rattle.controller.proofs.Statuses.{with_status}
 use Rattle.site.specs.States.{State, book, has_room, put_share, row, sent}
 use Rattle.site.specs.Steps.{share}
 use Rattle.protocol.specs.Members.{Member}

@@ -16,7 +16,7 @@ use Rattle.controller.specs.Questions.{Question as Asks, ask}
 use Rattle.controller.specs.Actions.{effect_of, refused}
 use Rattle.controller.proofs.Actions.{asks_split}
 use Rattle.site.specs.States.{Done, State, book, has_room}
-use Rattle.site.specs.Steps.{acts, deliver_message, pool_asks, refuse_about, share, told_of}
+use Rattle.site.specs.Steps.{acts, deliver_message, pool_asks, refuse_about, share, done_about}
 use Rattle.protocol.specs.Model as model
 use Rattle.protocol.specs.Model.{Run, Site}
 use Rattle.runs.specs.declared.steps.Step.TheVariants.{Deliver}
@@ -54,7 +54,7 @@ module _ {E : Type 0} (says : E → Question → Option Light) (unsettled : Ligh
       found (Some x) e lt =
           let k = x.addressee in
           let ranged : List Asks = ask (message_ok s.site.n (cap_of (book s k)) x) BadMessage ∷ [] in
-          asks_split P (ask (is_member s.site.n k) BadMessage ∷ []) (refuse_about s j) (told_of j (acts s k (deliver s.site.n x))) (λ z. stays run bond)
+          asks_split P (ask (is_member s.site.n k) BadMessage ∷ []) (refuse_about s j) (done_about j (acts s k (deliver s.site.n x))) (λ z. stays run bond)
           (λ zs. asks_split (Shown says unsettled n blank s h j x) ranged (refused k (has_room s) (share s k))
           (effect_of k (has_room s) (share s k) (takes x k (share s k))) (λ z. stays run bond)
           (λ ws. by_kind s h m run bond j x x.body refl (bond.messages.known j x lt e) (subst (λ z. message_ok z (cap_of (book s k)) x ≡ true) bond.sizes.size ws.0)))

@@ -16,7 +16,8 @@ use Rattle.controller.specs.declared.records.Status.{Status}
 use Rattle.controller.specs.declared.records.Status.TheVariants.{Waiting, Manager}
 use Rattle.controller.specs.Actions.{own}
 use Rattle.controller.specs.Messages.{message}
-use Rattle.controller.specs.Records.{managing, up, with_status}
+use Rattle.controller.specs.Records.{managing, up}
+use Rattle.controller.proofs.Statuses.{with_status}
 use Rattle.controller.specs.ViewChanges.{choice_at, form_choice, forms}
 use Rattle.site.specs.States.{Done, State, book, has_room, put_share, row, sent}
 use Rattle.site.specs.Steps.{step_at}

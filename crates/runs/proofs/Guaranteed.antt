@@ -28,7 +28,7 @@ in_order {n = n} {s = s} bond =
     let size : s.site.n ≡ n = bond.sizes.size in
     record {
       views = λ c below. (bond.replicas c (omega (arith, size))).views;
-      own_length = λ c below lengths leads.
+      own_acknowledged = λ c below lengths leads.
           let here = bond.replicas c (omega (arith, size)) in
           subst (OwnR c (row s (controller_of c)).length) leads here.own;
       rest = λ c above. bond.rest c (omega (arith, size));

@@ -7,7 +7,8 @@ use Rattle.numbers.specs.Rows.{row_ok}
 use Rattle.entries.specs.declared.book.Entry.{Entry}
 use Rattle.controller.specs.declared.records.Controller.{Controller}
 use Rattle.controller.specs.declared.records.Status.{Status}
-use Rattle.controller.specs.Records.{is_up, reply_of, with_status}
+use Rattle.controller.specs.Records.{is_up, reply_of}
+use Rattle.controller.proofs.Statuses.{with_status}
 use Rattle.protocol.specs.Model as model
 use Rattle.protocol.specs.Model.{Replica, answer_of, promising}
 use Rattle.runs.proofs.Acting.{current_code}

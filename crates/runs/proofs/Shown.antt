@@ -11,7 +11,7 @@ use Rattle.controller.specs.Messages.{message}
 use Rattle.controller.specs.Actions.{Action, Effect, effect_of, put_asks, room_asks, taken}
 use Rattle.controller.proofs.Actions.{AllYes, effect_split}
 use Rattle.site.specs.States.{State, book, has_room}
-use Rattle.site.specs.Steps.{placed, share, told_of}
+use Rattle.site.specs.Steps.{placed, share, done_about}
 use Rattle.protocol.specs.Members.{Member}
 use Rattle.protocol.specs.Model as model
 use Rattle.protocol.specs.Model.{Site}
@@ -22,7 +22,7 @@ use Rattle.runs.proofs.Simulated.{Simulated}
 module _ {E : Type 0} (says : E → Question → Option Light) (unsettled : Light) (n : ℕ) (blank : ℕ → model.Entry E) (s : State E) (h : List (Event E)) (j : ℕ) where
   -- message x was delivered, and its addressee gave g
   abbrev pub Shown : Message E → Effect E → Type 0
-  Shown x g = let d = told_of j (placed s x.addressee g) in Simulated says unsettled n blank d.state (deliver_tells d.state d.result ++ h)
+  Shown x g = let d = done_about j (placed s x.addressee g) in Simulated says unsettled n blank d.state (deliver_tells d.state d.result ++ h)
 
   -- so it is if it is shown of what is done where all is answered yes
   pub shown_split : (x : Message E) (a : Action E) → Simulated says unsettled n blank s h

@@ -17,7 +17,8 @@ use Rattle.controller.specs.declared.verdicts.Verdict.{Verdict}
 use Rattle.controller.specs.declared.verdicts.Verdict.TheVariants.{Confirmed, Lost, Waiting as Undecided}
 use Rattle.controller.specs.Books.{at_place, in_use, item}
 use Rattle.controller.specs.declared.outcomes.Outcome.{Outcome}
-use Rattle.controller.specs.Records.{is_primary, is_up, leading, with_status}
+use Rattle.controller.specs.Records.{is_primary, is_up, leading}
+use Rattle.controller.proofs.Statuses.{with_status}
 use Rattle.controller.specs.Verdicts.{holds, is_confirmed, is_lost, joined, lengths_in, most, reaches, settle, verdict_of}
 use Rattle.site.specs.States.{Done, State, book, done, row}
 use Rattle.site.specs.Steps.{refuse, step_at}

@@ -13,19 +13,19 @@ use Rattle.controller.proofs.Places.{item_within}
 use Rattle.site.specs.declared.faults.Fault.{Fault}
 use Rattle.site.specs.Faults.{about_message}
 use Rattle.site.specs.States.{HasMessage, State}
-use Rattle.site.specs.Steps.{acts, deliver_message, deliver_step, pool_asks, refuse_about, replied, told_of}
+use Rattle.site.specs.Steps.{acts, deliver_message, deliver_step, pool_asks, refuse_about, replied, done_about}
 
 module _ {E : Type 0} (s : State E) (j : ℕ) (m : Message E) where
   -- the site's questions are answered yes
   pub deliver_go : HasMessage s.site (length s.books) (length s.pool) j → m ≡ get_or s.pool j m → is_member s.site.n m.addressee ≡ true
-      → deliver_step s j ≡ told_of j (acts s m.addressee (deliver s.site.n m))
+      → deliver_step s j ≡ done_about j (acts s m.addressee (deliver s.site.n m))
   deliver_go asked is known =
       asks_go (pool_asks s j) (refuse_about s j) (deliver_message s j (item s.pool j)) (asked.made, (lt-ltb j s.site.count asked.below, tt))
       ∙ ap (deliver_message s j) (item_within s.pool j m (omega (arith, asked.below, asked.counted)) is)
-      ∙ asks_go (ask (is_member s.site.n m.addressee) BadMessage ∷ []) (refuse_about s j) (told_of j (acts s m.addressee (deliver s.site.n m))) (known, tt)
+      ∙ asks_go (ask (is_member s.site.n m.addressee) BadMessage ∷ []) (refuse_about s j) (done_about j (acts s m.addressee (deliver s.site.n m))) (known, tt)
 
   -- and the fault of what the addressee answered is told of the message
-  told_reply : (t : State E) (r out : Result (Option (Message E)) Fault) → MatchResult r (λ v. out ≡ Ok v) (λ f. out ≡ Err (about_message j f)) → told_of j (replied t m r) ≡ replied t m out
+  told_reply : (t : State E) (r out : Result (Option (Message E)) Fault) → MatchResult r (λ v. out ≡ Ok v) (λ f. out ≡ Err (about_message j f)) → done_about j (replied t m r) ≡ replied t m out
   told_reply t (Ok v) out is = ap (replied t m) (sym is)
   told_reply t (Err f) out is = ap (replied t m) (sym is)
 
@@ -36,9 +36,9 @@ module _ {E : Type 0} (s : State E) (j : ℕ) (m : Message E) where
       → deliver_step s j ≡ replied t m out
   delivered {k = k} {n = n} t r out asked is known took cases by_name =
       deliver_go asked is known.0
-      ∙ ap (λ z. told_of j (acts s z (deliver s.site.n m))) (sym known.1.0)
-      ∙ ap (λ z. told_of j (acts s k (deliver z m))) (sym known.1.1)
-      ∙ ap (told_of j) took
+      ∙ ap (λ z. done_about j (acts s z (deliver s.site.n m))) (sym known.1.0)
+      ∙ ap (λ z. done_about j (acts s k (deliver z m))) (sym known.1.1)
+      ∙ ap (done_about j) took
       ∙ told_reply t r out (MatchResult-weaker r cases (λ v p. p) by_name)
 
   -- what was taken, from what the site makes of it

@@ -58,10 +58,10 @@ module _ {E : Type 0} (s : State E) where
   refuse_about j k = record { result = Err (fault_about j k); state = s }
 
 -- what was refused is told of message j
-abbrev pub told_of : {E : Type 0} → ℕ → Done (Outcome E) E → Done (Outcome E) E
-told_of j d = record { result = about j d.result; state = d.state }
+abbrev pub done_about : {E : Type 0} → ℕ → Done (Outcome E) E → Done (Outcome E) E
+done_about j d = record { result = about j d.result; state = d.state }
 
--- message m was taken, with a reply to it, if any; or refused, and the state is t
+-- what the addressee gave of message m, with a reply to it, if any, where the state t is left
 abbrev pub replied : {E : Type 0} → State E → Message E → Result (Option (Message E)) Fault → Done (Outcome E) E
 replied t m (Ok reply) = record { result = Ok (Delivered m); state = sends t reply }
 replied t m (Err f) = record { result = Err f; state = t }
@@ -83,7 +83,7 @@ module _ {E : Type 0} (s : State E) where
 
   abbrev pub deliver_message : ℕ → Option (Message E) → Done (Outcome E) E
   deliver_message j None = refuse_about s j NoSuchMessage
-  deliver_message j (Some m) = asks (ask (is_member s.site.n m.addressee) BadMessage ∷ []) (refuse_about s j) (told_of j (acts s m.addressee (deliver s.site.n m)))
+  deliver_message j (Some m) = asks (ask (is_member s.site.n m.addressee) BadMessage ∷ []) (refuse_about s j) (done_about j (acts s m.addressee (deliver s.site.n m)))
 
   -- message j of the pool is taken by its addressee
   abbrev pub deliver_step : ℕ → Done (Outcome E) E

@@ -1,4 +1,4 @@
--- The entries of a book that are used, by their number. Assumes nothing.
+-- The entries of a book that are used, by their number.
 use Rattle.std.proofs.Common.{◌≡◌, ℕ, min, List, length, take, sym, ap, ◌∙◌, ⊎_elim, arith}
 use Rattle.std.proofs.lemmas.Bool.{cases_lt}
 use Rattle.std.proofs.lemmas.List.{take_all}

@@ -1,4 +1,4 @@
--- Entries and questions as the numbers that cross, and what is green. Assumes nothing.
+-- Entries and questions as the numbers that cross, and what is green.
 use Rattle.std.specs.Prelude.{Bool, true, false, not, List, Option, ◌==◌}
 use Rattle.numbers.specs.Views.{view_of}
 use Rattle.entries.specs.declared.book.Entry.{Entry}

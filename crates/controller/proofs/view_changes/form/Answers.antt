@@ -3,7 +3,7 @@ use Rattle.entries.specs.declared.messages.Body.TheVariants.{Form}
 use Rattle.controller.specs.declared.records.Status.TheVariants.{Waiting}
 use Rattle.controller.specs.Actions.{own}
 use Rattle.controller.specs.Messages.{message}
-use Rattle.controller.specs.Records.{with_status}
+use Rattle.controller.proofs.Statuses.{with_status}
 use Rattle.controller.proofs.Forms.{forms_by_rules}
 use Rattle.controller.proofs.view_changes.form.Goals as goal
 
