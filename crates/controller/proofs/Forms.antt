@@ -12,8 +12,6 @@ use Rattle.controller.specs.declared.faults.Fault.{Fault}
 use Rattle.controller.specs.declared.faults.Fault.TheVariants.{Refused}
 use Rattle.controller.specs.declared.outcomes.Outcome.{Outcome}
 use Rattle.controller.specs.declared.outcomes.Outcome.TheVariants.{Formed}
-use Rattle.controller.specs.declared.records.Controller.{Controller}
-use Rattle.controller.specs.declared.records.Status.{Status}
 use Rattle.controller.specs.declared.records.Status.TheVariants.{Manager}
 use Rattle.controller.specs.Actions.{Own, effect, handed_message, own}
 use Rattle.controller.specs.Forms.{FormsByRules, chosen_in}

@@ -4,7 +4,7 @@ use Rattle.numbers.specs.declared.views.ControllerNumber.{ControllerNumber}
 use Rattle.entries.specs.declared.book.Entry.{Entry}
 use Rattle.controller.specs.declared.records.Controller.{Controller}
 use Rattle.controller.specs.declared.records.Status.{Status}
-use Rattle.controller.specs.declared.records.Status.TheVariants.{Down, Waiting, Manager, Backup, Primary}
+use Rattle.controller.specs.declared.records.Status.TheVariants.{Primary}
 
 -- item i of a list, from 0, or none
 abbrev pub item : {A : Type 0} → List A → ℕ → Option A

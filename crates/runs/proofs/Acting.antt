@@ -23,38 +23,24 @@ module _ {E : Type 0} (n c : ℕ) (r : Replica E) where
 
   pub down_is_down : (t : Status) → StatusR n c t r → records.up t ≡ false → r.status ≡ down
   down_is_down Down k h = k
-  down_is_down Waiting k h = absurd (false≢true (sym h))
-  down_is_down (Manager a) k h = absurd (false≢true (sym h))
-  down_is_down Backup k h = absurd (false≢true (sym h))
-  down_is_down (Primary l) k h = absurd (false≢true (sym h))
+  down_is_down t k h = absurd (false≢true (sym h))
 
   pub waiting_is_waiting : (t : Status) → StatusR n c t r → records.waiting t ≡ true → r.status ≡ waiting
-  waiting_is_waiting Down k h = absurd (false≢true h)
   waiting_is_waiting Waiting k h = k
-  waiting_is_waiting (Manager a) k h = absurd (false≢true h)
-  waiting_is_waiting Backup k h = absurd (false≢true h)
-  waiting_is_waiting (Primary l) k h = absurd (false≢true h)
+  waiting_is_waiting t k h = absurd (false≢true h)
 
   pub manager_is_manager : (t : Status) → StatusR n c t r → records.managing t ≡ true → r.status ≡ manager
-  manager_is_manager Down k h = absurd (false≢true h)
-  manager_is_manager Waiting k h = absurd (false≢true h)
   manager_is_manager (Manager a) k h = k.0
-  manager_is_manager Backup k h = absurd (false≢true h)
-  manager_is_manager (Primary l) k h = absurd (false≢true h)
+  manager_is_manager t k h = absurd (false≢true h)
 
   pub active_is_active : (t : Status) → StatusR n c t r → records.active t ≡ true → r.status ≡ active
-  active_is_active Down k h = absurd (false≢true h)
-  active_is_active Waiting k h = absurd (false≢true h)
-  active_is_active (Manager a) k h = absurd (false≢true h)
   active_is_active Backup k h = k
   active_is_active (Primary l) k h = k.0
+  active_is_active t k h = absurd (false≢true h)
 
 pub primary_leads : {E : Type 0} (n c : ℕ) (m : Site E) (t : Status) → StatusR n c t (m.replicas c) → leading t ≡ true → IsPrimary m c
-primary_leads n c m Down k h = absurd (false≢true h)
-primary_leads n c m Waiting k h = absurd (false≢true h)
-primary_leads n c m (Manager a) k h = absurd (false≢true h)
-primary_leads n c m Backup k h = absurd (false≢true h)
 primary_leads n c m (Primary l) k h = record { is_active = k.0; is_primary = k.2 }
+primary_leads n c m t k h = absurd (false≢true h)
 
 module _ {E : Type 0} {n c : ℕ} {x : Controller} {w : Row} {b : List (Entry E)} {r : Replica E} (bonded : ReplicaR n c x w b r) (up : records.is_up x ≡ true) where
   pub current_code : r.current ≡ code x.views.current

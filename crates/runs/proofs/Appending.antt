@@ -7,7 +7,7 @@ use Rattle.numbers.specs.declared.views.ControllerNumber.{ControllerNumber}
 use Rattle.entries.specs.declared.book.Entry.{Entry}
 use Rattle.controller.specs.declared.records.Controller.{Controller}
 use Rattle.controller.specs.declared.records.Status.{Status}
-use Rattle.controller.specs.declared.records.Status.TheVariants.{Down, Waiting, Manager, Backup, Primary}
+use Rattle.controller.specs.declared.records.Status.TheVariants.{Primary}
 use Rattle.controller.specs.Books.{appended, item, own_length}
 use Rattle.controller.specs.Records.{is_up}
 use Rattle.protocol.specs.Updates.{upd}
@@ -45,11 +45,8 @@ module _ {E : Type 0} (b : List (Entry E)) (e : Entry E) (l : ℕ) (inside : l <
 
 -- a primary's own length is then one more too
 pub own_after : {E : Type 0} (n : ℕ) (i : ControllerNumber) (l : ℕ) (r : Replica E) → i.number < 7 → (t : Status) → StatusR n i.number t r → OwnR i.number l (own_length i l t)
-own_after n i l r low Down k = tt
-own_after n i l r low Waiting k = tt
-own_after n i l r low (Manager a) k = tt
-own_after n i l r low Backup k = tt
 own_after n i l r low (Primary lengths) k = let long = k.1 in get_or-set_same lengths i.number (Some l) None (omega arith)
+own_after n i l r low t k = tt
 
 -- the entry e, which is z for the replica
 module _ {E : Type 0} {n : ℕ} {x : Controller} {w : Row} {b : List (Entry E)} {r : Replica E} (i : ControllerNumber) (old : ReplicaR n i.number x w b r) (is : is_up x ≡ true) where

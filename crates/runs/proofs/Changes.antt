@@ -1,6 +1,6 @@
 -- A change is a step of the protocol.
 use Rattle.entries.specs.declared.book.Entry.{Entry}
-use Rattle.std.proofs.Common.{◌≡◌, ℕ, suc, ◌+◌, ◌<◌, ◌≤◌, true, ltb, List, [], ◌∷◌, ◌++◌, set, Some, Ok, Err, Option, refl, ap, ◌∙◌, arith}
+use Rattle.std.proofs.Common.{◌≡◌, ℕ, suc, ◌+◌, ◌<◌, ◌≤◌, true, List, ◌++◌, Some, Option, refl, ap, ◌∙◌, arith}
 use Rattle.std.proofs.lemmas.List.{length-set}
 use Rattle.std.proofs.lemmas.Bool.{false≢true, ltb-true}
 use Rattle.numbers.specs.declared.views.ControllerNumber.{ControllerNumber}
@@ -9,7 +9,7 @@ use Rattle.entries.specs.declared.kinds.Answer.{Answer as Light}
 use Rattle.entries.specs.declared.kinds.Question.{Question}
 use Rattle.controller.specs.declared.records.Controller.{Controller}
 use Rattle.controller.specs.declared.records.Status.{Status}
-use Rattle.controller.specs.declared.records.Status.TheVariants.{Down, Waiting, Manager, Backup, Primary}
+use Rattle.controller.specs.declared.records.Status.TheVariants.{Primary}
 use Rattle.controller.specs.declared.outcomes.Outcome.{Outcome}
 use Rattle.controller.specs.Actions.{taken}
 use Rattle.controller.specs.Books.{appended, cap_of}
@@ -35,16 +35,13 @@ use Rattle.runs.proofs.Tables.{table_set}
 status_after : {E : Type 0} (n : ℕ) (most : n ≤ 7) (i : ControllerNumber) → i.number < n → (x : Controller) (r : Replica E) (e : model.Entry E) → r.length ≡ x.length
     → (t : Status) → StatusR n i.number t r → leading t ≡ true
     → StatusR n i.number (appended i (with_status x t)).status (appending r e (upd r.acknowledged i.number (suc (suc r.length))))
-status_after n most i below x r e len Down k h = absurd (false≢true h)
-status_after n most i below x r e len Waiting k h = absurd (false≢true h)
-status_after n most i below x r e len (Manager a) k h = absurd (false≢true h)
-status_after n most i below x r e len Backup k h = absurd (false≢true h)
 status_after n most i below x r e len (Primary l) k h = (
   k.0,
   length-set l i.number (Some (x.length + 1)) ∙ k.1,
   k.2,
   table_set the_length n l r.acknowledged i.number (x.length + 1) (suc (suc r.length)) (omega arith) (omega (arith, k.1)) k.3,
 )
+status_after n most i below x r e len t k h = absurd (false≢true h)
 
 module _ {E : Type 0} (says : E → Question → Option Light) (unsettled : Light) (n : ℕ) (blank : ℕ → model.Entry E)
     (s : State E) (h : List (Event E)) (m : Site E) (run : Run n blank m) (bond : Bond says unsettled n s h m) (i : ControllerNumber) (x : E) where

@@ -1,6 +1,6 @@
 -- The delivery of a form message is one of the protocol.
 use Rattle.std.proofs.lemmas.List.{get_or-set_same}
-use Rattle.std.proofs.Common.{◌≡◌, ℕ, suc, ◌<◌, true, not, List, Option, sym, refl, ap, ◌∙◌, subst, replicate, Some, None, arith}
+use Rattle.std.proofs.Common.{◌≡◌, ℕ, suc, ◌<◌, true, List, Option, sym, refl, ap, ◌∙◌, subst, replicate, Some, None, arith}
 use Rattle.numbers.specs.declared.views.ControllerNumber.{ControllerNumber}
 use Rattle.numbers.specs.declared.views.View.{View}
 use Rattle.numbers.specs.Rows.{row_ok}

@@ -1,9 +1,8 @@
 -- The delivery of an invitation is one of the protocol.
-use Rattle.std.proofs.Common.{◌≡◌, ℕ, ◌<◌, true, not, List, length, Option, sym, refl, ap, subst}
+use Rattle.std.proofs.Common.{◌≡◌, ℕ, ◌<◌, true, List, length, Option, sym, refl, ap, subst}
 use Rattle.std.proofs.lemmas.Bool.{ltb-true}
 use Rattle.numbers.specs.declared.views.ControllerNumber.{ControllerNumber}
 use Rattle.numbers.specs.declared.views.View.{View}
-use Rattle.numbers.specs.Rows.{row_ok}
 use Rattle.numbers.specs.Views.{earlier}
 use Rattle.entries.specs.declared.messages.Body.TheVariants.{Invitation, Answer as Answers}
 use Rattle.entries.specs.declared.messages.Message.{Message}

@@ -1,5 +1,5 @@
 -- A delivery of the site is one of the protocol, by the kind of message.
-use Rattle.std.proofs.Common.{◌≡◌, ℕ, ◌<◌, true, ltb, List, [], ◌∷◌, ◌++◌, Some, None, Option, refl, subst}
+use Rattle.std.proofs.Common.{◌≡◌, ℕ, ◌<◌, true, List, [], ◌∷◌, ◌++◌, Some, None, Option, refl, subst}
 use Rattle.std.proofs.lemmas.Bool.{ltb-true}
 use Rattle.numbers.specs.declared.refusals.Refusal.TheVariants.{BadMessage}
 use Rattle.entries.specs.declared.messages.Body.{Body}

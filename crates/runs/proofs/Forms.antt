@@ -5,7 +5,6 @@ use Rattle.std.specs.Option.{option_map}
 use Rattle.numbers.specs.declared.views.ControllerNumber.{ControllerNumber}
 use Rattle.numbers.specs.Views.{controller_of}
 use Rattle.entries.specs.declared.messages.Body.TheVariants.{Form as Opens}
-use Rattle.entries.specs.declared.messages.Message.{Message}
 use Rattle.entries.specs.declared.messages.Reply.{Reply}
 use Rattle.entries.specs.declared.kinds.Answer.{Answer as Light}
 use Rattle.entries.specs.declared.kinds.Question.{Question}

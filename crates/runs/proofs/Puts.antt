@@ -1,10 +1,9 @@
 -- What controller i has after an action whose put is told to be taken, and what it then has to show.
-use Rattle.std.proofs.Common.{◌≡◌, ℕ, ◌-◌, ◌<◌, Bool, true, false, cond, not, ◌≢◌, List, length, set, Option, sym, refl, ap, ◌∙◌, subst, arith, length-set}
+use Rattle.std.proofs.Common.{◌≡◌, ℕ, ◌-◌, ◌<◌, Bool, true, false, cond, List, length, set, Option, sym, refl, ap, ◌∙◌, subst, arith, length-set}
 use Rattle.std.proofs.lemmas.List.{get_or-set_same}
 use Rattle.std.proofs.lemmas.Bool.{not-true}
 use Rattle.numbers.specs.declared.rows.Row.{Row}
 use Rattle.numbers.specs.declared.views.ControllerNumber.{ControllerNumber}
-use Rattle.entries.specs.declared.book.Entry.{Entry}
 use Rattle.entries.specs.declared.kinds.Answer.{Answer as Light}
 use Rattle.entries.specs.declared.kinds.Question.{Question}
 use Rattle.cabinet.specs.Cells.{Cell, cell_at, fresh, is_worn}

@@ -1,5 +1,5 @@
 -- A settle by a slip's numbers: from the slip that was taken up and what came back to the verdict.
-use Rattle.std.proofs.Common.{◌≡◌, Bool, true, false, cond, Ok, Err, Result, sym, refl, ap, ◌∙◌, []}
+use Rattle.std.proofs.Common.{◌≡◌, Bool, true, false, cond, Ok, Err, Result, refl, ap, ◌∙◌, []}
 use Rattle.numbers.specs.declared.refusals.Refusal.TheVariants.{BadForm}
 use Rattle.numbers.specs.declared.views.ControllerNumber.{ControllerNumber}
 use Rattle.numbers.specs.declared.views.Stamp.{Stamp}

@@ -1,5 +1,5 @@
 -- A slip that is settled is a step of the protocol.
-use Rattle.std.proofs.Common.{◌≡◌, ℕ, suc, ◌-◌, ◌<◌, ◌≤◌, Bool, true, false, cond, not, ◌&&◌, ltb, leb, ◌≢◌, ◌⊎◌, List, [], ◌∷◌, ◌++◌, get_or, take, Some, None, Ok, Err, Option, sym, refl, ap, ◌∙◌, subst, inl, inr, arith}
+use Rattle.std.proofs.Common.{◌≡◌, ℕ, suc, ◌-◌, ◌<◌, ◌≤◌, Bool, true, false, cond, not, ◌&&◌, ltb, leb, ◌≢◌, ◌⊎◌, List, ◌∷◌, ◌++◌, get_or, take, Some, None, Ok, Option, sym, refl, ap, ◌∙◌, subst, inl, inr, arith}
 use Rattle.std.proofs.lemmas.Bool.{and_parts, cond_both, false≢true, leb-true, not-true}
 use Rattle.std.proofs.lemmas.Bool.Decides.{nat_tests as tests}
 use Rattle.numbers.specs.declared.refusals.Refusal.TheVariants.{BadForm}
@@ -12,7 +12,7 @@ use Rattle.entries.specs.declared.kinds.Question.{Question}
 use Rattle.cabinet.specs.Cells.{cell_at}
 use Rattle.controller.specs.declared.records.Controller.{Controller}
 use Rattle.controller.specs.declared.records.Status.{Status}
-use Rattle.controller.specs.declared.records.Status.TheVariants.{Down, Waiting, Manager, Backup, Primary}
+use Rattle.controller.specs.declared.records.Status.TheVariants.{Primary}
 use Rattle.controller.specs.declared.verdicts.Verdict.{Verdict}
 use Rattle.controller.specs.declared.verdicts.Verdict.TheVariants.{Confirmed, Lost, Waiting as Undecided}
 use Rattle.controller.specs.Books.{at_place, in_use, item}
@@ -80,13 +80,10 @@ module _ {E : Type 0} (n c : ℕ) (low : n ≤ 7) (x : Controller) (r : Replica 
   most_status : ((o : Option ℕ) (a : ℕ) → a ≡ the_length o → test o ≡ pass a) → (t : Status) → StatusR n c t r → leading t ≡ true
       → most n test (with_status x t) ≡ true → Majority n (λ d. pass (r.acknowledged d))
   unfolding lengths_in
-  most_status agree Down k h m = absurd (false≢true h)
-  most_status agree Waiting k h m = absurd (false≢true h)
-  most_status agree (Manager a) k h m = absurd (false≢true h)
-  most_status agree Backup k h m = absurd (false≢true h)
   most_status agree (Primary l) k h m =
       let long = k.1 in
       majority_taken test l None n (λ d. pass (r.acknowledged d)) (omega arith) (λ d z. sym (agree (get_or l d None) (r.acknowledged d) (k.3 d z))) (leb-true _ _ m)
+  most_status agree t k h m = absurd (false≢true h)
 
 module _ {E : Type 0} (says : E → Question → Option Light) (unsettled : Light) (n : ℕ) (blank : ℕ → model.Entry E)
     (s : State E) (h : List (Event E)) (m : Site E) (run : Run n blank m) (bond : Bond says unsettled n s h m) (i : ControllerNumber) where

@@ -1,5 +1,5 @@
 -- What holds of the records of a site after every run.
-use Rattle.std.specs.Prelude.{◌≡◌, ℕ, ◌<◌, ◌≤◌, true, List, ◌++◌, length, Some, None, Ok, Option, slice_index_or}
+use Rattle.std.specs.Prelude.{◌≡◌, ℕ, ◌<◌, ◌≤◌, true, List, length, Some, None, Ok, Option, slice_index_or}
 use Rattle.numbers.specs.Views.{controller_of}
 use Rattle.entries.specs.declared.kinds.Answer.{Answer}
 use Rattle.entries.specs.declared.kinds.Question.{Question}

@@ -1,5 +1,5 @@
 -- A delivery, from the site's questions to what the addressee left.
-use Rattle.std.proofs.Common.{◌≡◌, ℕ, ◌<◌, true, List, [], ◌∷◌, length, get_or, Ok, Err, Option, Result, MatchResult, refl, sym, ap, ◌∙◌, arith, lt-ltb}
+use Rattle.std.proofs.Common.{◌≡◌, ℕ, true, [], ◌∷◌, length, get_or, Ok, Err, Option, Result, MatchResult, sym, ap, ◌∙◌, arith, lt-ltb}
 use Rattle.std.proofs.lemmas.Result.{MatchResult-weaker}
 use Rattle.numbers.specs.declared.refusals.Refusal.TheVariants.{BadMessage}
 use Rattle.numbers.specs.declared.views.ControllerNumber.{ControllerNumber}

@@ -1,5 +1,5 @@
 -- A controller's step at a site: what the controller's call gave, from what the site lent it, placed in the site.
-use Rattle.std.proofs.Common.{◌≡◌, ℕ, ◌-◌, ◌<◌, Bool, true, List, [], length, get_or, take, drop, set, Some, Ok, Err, Option, Result, sym, refl, ap, ◌∙◌, subst, ltb-true}
+use Rattle.std.proofs.Common.{◌≡◌, ℕ, ◌-◌, ◌<◌, Bool, List, [], length, get_or, take, drop, set, Some, Ok, Err, Option, Result, sym, refl, ap, ◌∙◌, subst, ltb-true}
 use borrow.Rule.Slice.PartMut.{put_mid}
 use Rattle.std.proofs.lemmas.List.{set-get_or}
 use Rattle.numbers.specs.declared.views.ControllerNumber.{ControllerNumber}
@@ -16,7 +16,7 @@ use Rattle.controller.proofs.Actions.{asks_go, kept, sent_room}
 use Rattle.site.specs.declared.faults.Fault.{Fault}
 use Rattle.site.specs.declared.records.Site.{Site}
 use Rattle.site.specs.Faults.{site_fault}
-use Rattle.site.specs.States.{IsMember, IsPair, State, book, done, has_room, put_share, row, sends, state, with_part, with_row}
+use Rattle.site.specs.States.{IsMember, IsPair, State, book, done, has_room, put_share, sends, state, with_part}
 use Rattle.site.specs.Steps.{acts, left_by, other_asks, refuse, share, site_asks, step_at, step_between}
 use Rattle.site.proofs.Lent.{LentTo, lent, part_back, part_same, row_back}
 

@@ -1,5 +1,5 @@
 -- A slip by the controller's verdict is the slip by the site's.
-use Rattle.std.proofs.Common.{◌≡◌, ℕ, ◌-◌, Bool, List, length, get_or, take, drop, Ok, Err, Result, MatchResult, refl, sym, ap, ◌∙◌, subst}
+use Rattle.std.proofs.Common.{◌≡◌, ℕ, ◌-◌, List, length, get_or, take, drop, Ok, Err, Result, MatchResult, refl, sym, ap, ◌∙◌, subst}
 use Rattle.std.proofs.lemmas.Result.{MatchResult-weaker}
 use Rattle.numbers.specs.declared.views.ControllerNumber.{ControllerNumber}
 use Rattle.entries.specs.declared.book.Entry.{Entry}
@@ -19,7 +19,7 @@ use Rattle.site.specs.declared.faults.Fault.{Fault}
 use Rattle.site.specs.declared.records.Site.{Site}
 use Rattle.site.specs.Faults.{site_fault}
 use Rattle.site.specs.States.{IsMember, State, has_room, state}
-use Rattle.site.specs.Steps.{acts, left_by, share, step_at}
+use Rattle.site.specs.Steps.{left_by, share, step_at}
 use Rattle.site.proofs.Lent.{LentTo, lent}
 use Rattle.site.proofs.Placing.{at_go, named}
 

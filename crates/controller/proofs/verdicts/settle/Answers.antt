@@ -1,4 +1,4 @@
-use Rattle.std.proofs.Common.{◌≡◌, ℕ, Ok, sym, ap, ◌∙◌}
+use Rattle.std.proofs.Common.{Ok, sym, ap, ◌∙◌}
 use Rattle.numbers.specs.declared.views.Stamp.{Stamp}
 use Rattle.controller.specs.Actions.{effect, own}
 use Rattle.controller.specs.Verdicts.{settle, settled_by}
