@@ -93,8 +93,8 @@ fn slips_settle(rt: HostRuntime) {
 fn invited(me: Member, cab: &mut Tray, cut: bool) -> Result<Option<Message<u16>>, Fault> {
     let mut row = Controller::first(me.number());
     if cut {
-        crash(me, &mut row)?;
-        recover(me, &mut row, &*cab)?;
+        crash::<u16>(me, &mut row)?;
+        recover::<u16, Tray>(me, &mut row, &*cab)?;
     }
     let invitation = Message {
         sender: ControllerNumber { number: 2 },
