@@ -46,7 +46,8 @@ impl<'a> Strip<'a> {
         ensures lent { result.bytes.ghost_name ≡ bytes.entry.ghost_name }
         ensures tells { Decides result.sound (StripForm bytes.old) }
     {
-        let counts = strip_counts(&*bytes);
+        let read = &*bytes;
+        let counts = strip_counts(read);
         Strip {
             bytes,
             sound: counts.is_some(),
