@@ -57,8 +57,10 @@ impl<R: BufRead + Drop> Script<R> {
     pub fn next<T: Said>(&mut self) -> Result<Option<T>, Trouble> {
         // an input may have no end, but a loop has one
         for _ in 0..u64::MAX {
-            if !self.advance().map_err(Trouble::Reading)? {
-                break;
+            match self.advance() {
+                Ok(true) => {}
+                Ok(false) => break,
+                Err(error) => return Err(Trouble::Reading(error)),
             }
             let line = without_feed(self.line.as_slice());
             if line.len() > LONGEST {
