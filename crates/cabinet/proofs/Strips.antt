@@ -1,9 +1,13 @@
 -- The cells of a strip, one by one.
-use Rattle.std.proofs.Common.{◌≡◌, ℕ, ◌-◌, ◌<◌, Bool, true, false, eqb, List, ap, ◌∙◌, arith}
+use Rattle.std.proofs.Common.{◌≡◌, ℕ, ◌-◌, ◌<◌, Bool, true, false, eqb, List, length, refl, ap, ◌∙◌, arith}
 use Rattle.std.proofs.lemmas.List.FromFn.{get_or-map-range_with_len}
 use Rattle.std.proofs.lemmas.Bool.{ne_eqb}
 use Rattle.cabinet.specs.Cells.{Cell, cell_at, fresh}
 use Rattle.cabinet.specs.Slots.{slots_in, filled, part_cell, part, strip_cells}
+
+-- whatever the bytes are, a strip has seven cells
+pub cells_are_seven : (flag : Bool) (bs : List ℕ) → length (strip_cells flag bs) ≡ 7
+cells_are_seven flag bs = refl
 
 -- a cell of a strip in form
 pub cell_sound : (flag : Bool) (bs : List ℕ) (c : ℕ) → flag ≡ true → c < 7 → cell_at (strip_cells flag bs) c ≡ part_cell (part bs c)

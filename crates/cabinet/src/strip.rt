@@ -19,10 +19,10 @@ pub struct Strip<'a> {
     bytes: &'a mut [u8],
     // whether the bytes are in form; a flag beside them, since they stay lent where they are not
     sound: bool,
-    // how many slots of each part are filled, so that no call has to search
+    // how many slots of each part are filled, so that no call has to search; bytes in no form are not counted
     counts: [usize; 7],
     ghost seven: { length counts ≡ 7 },
-    ghost counted: { Counted counts bytes.now },
+    ghost counted: { sound ≡ true → Counted counts bytes.now },
     ghost tells: { Decides sound (StripForm bytes.now) },
 }
 
@@ -33,10 +33,9 @@ impl<'a> Strip<'a> {
     pub fn check(bytes: &[u8]) -> Result<(), Refusal>
         ensures { MatchResult result (λ _. StripForm bytes.now) (λ e. (StripForm bytes.now → ⊥) × (e ≡ refusal 17)) }
     {
-        if bytes_are_in_form(bytes, &filled_counts(bytes)) {
-            Ok(())
-        } else {
-            Err(Refusal::BadForm)
+        match strip_counts(bytes) {
+            Some(_) => Ok(()),
+            None => Err(Refusal::BadForm),
         }
     }
 
@@ -48,12 +47,11 @@ impl<'a> Strip<'a> {
         ensures tells { Decides result.sound (StripForm bytes.old) }
     {
         let read = &*bytes;
-        let counts = filled_counts(read);
-        let sound = bytes_are_in_form(read, &counts);
+        let counts = strip_counts(read);
         Strip {
             bytes,
-            sound,
-            counts,
+            sound: counts.is_some(),
+            counts: counts.unwrap_or([0; 7]),
         }
     }
 
@@ -72,7 +70,7 @@ impl<'a> Strip<'a> {
 
     // How many slots of a cell's part are filled.
     fn filled(&self, cell: u16, slots: &[u8]) -> usize
-        requires { (cell < 7) × (slots.now ≡ part (bytes_in self.now) cell) }
+        requires { (self.now.sound ≡ true) × (cell < 7) × (slots.now ≡ part (bytes_in self.now) cell) }
         ensures value { result ≡ filled slots.now }
         ensures bound { result ≤ slots_in slots.now }
     {
@@ -129,14 +127,32 @@ fn parts_are_in_form(bytes: &[u8], counts: &[usize; 7]) -> bool
     (0..7).all(|cell| is_in_form(part_of(bytes, cell), counts[cell]))
 }
 
-// Whether the bytes are a multiple of 56, from 56 to 57,344, and all seven parts are in form; the
-// counts of their filled slots are known.
-fn bytes_are_in_form(bytes: &[u8], counts: &[usize; 7]) -> bool
-    requires { Counted counts.now bytes.now }
-    ensures { Decides result (StripForm bytes.now) }
+// How many slots of each part are filled; none where a part is not in form.
+fn part_counts(bytes: &[u8]) -> Option<[usize; 7]>
+    ensures seven { IfSome result (λ counts. length counts ≡ 7) }
+    ensures counted { IfSome result (λ counts. Counted counts bytes.now) }
+    ensures form { MatchOption result (((c : ℕ) → c < 7 → PartForm (part bytes.now c)) → ⊥) (λ _. (c : ℕ) → c < 7 → PartForm (part bytes.now c)) }
+{
+    let counts = filled_counts(bytes);
+    if !parts_are_in_form(bytes, &counts) {
+        return None;
+    }
+    Some(counts)
+}
+
+// The same of bytes that are a multiple of 56, from 56 to 57,344; none where they are not. Their number is asked first,
+// so that bytes that are no strip are not gone through.
+fn strip_counts(bytes: &[u8]) -> Option<[usize; 7]>
+    ensures seven { IfSome result (λ counts. length counts ≡ 7) }
+    ensures counted { IfSome result (λ counts. Counted counts bytes.now) }
+    ensures form { MatchOption result (StripForm bytes.now → ⊥) (λ _. StripForm bytes.now) }
 {
     let n = bytes.len();
-    n % 56 == 0 && (56..=57_344).contains(&n) && parts_are_in_form(bytes, counts)
+    if n % 56 == 0 && (56..=57_344).contains(&n) {
+        part_counts(bytes)
+    } else {
+        None
+    }
 }
 
 impl<'a> Cabinet for Strip<'a> {

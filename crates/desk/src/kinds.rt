@@ -1,7 +1,6 @@
 //! What differs between the kinds of change: how a script writes one, and how a report does.
 ghost use Rattle.std.specs.Prelude.{◌≡◌, [], ◌∷◌, if◌then◌else◌};
 
-use crate::troubles::{Expected, Trouble};
 use crate::words::Words;
 use entries::{CardChange, HoursChange, Kind};
 
@@ -12,19 +11,19 @@ pub trait Written: Kind {
     /// A line with a change.
     const FORM: &'static str;
 
-    /// The change that the next words say, on a line of this form.
-    fn read(words: &mut Words, form: Expected) -> Result<Self, Trouble>;
+    /// The change that the next words say.
+    fn read(words: &mut Words) -> Option<Self>;
 
     /// The three numbers of a change.
     fn numbers(&self) -> [u16; 3];
 }
 
 // Whether the next word says that a card is given.
-fn given(words: &mut Words, form: Expected) -> Result<bool, Trouble> {
-    match words.word(form)? {
-        "given" => Ok(true),
-        "withdrawn" => Ok(false),
-        _ => Err(words.misfit(form)),
+fn given(words: &mut Words) -> Option<bool> {
+    match words.next()? {
+        "given" => Some(true),
+        "withdrawn" => Some(false),
+        _ => None,
     }
 }
 
@@ -37,11 +36,11 @@ impl Written for CardChange {
 
     const FORM: &'static str = "change I CARD DOORS given or change I CARD DOORS withdrawn";
 
-    fn read(words: &mut Words, form: Expected) -> Result<CardChange, Trouble> {
-        let card = words.number(form)?;
-        let doors = words.number(form)?;
-        let given = given(words, form)?;
-        Ok(CardChange { card, doors, given })
+    fn read(words: &mut Words) -> Option<CardChange> {
+        let card = words.number()?;
+        let doors = words.number()?;
+        let given = given(words)?;
+        Some(CardChange { card, doors, given })
     }
 
     fn numbers(&self) -> [u16; 3]
@@ -60,11 +59,11 @@ impl Written for HoursChange {
 
     const FORM: &'static str = "change I DOOR OPENING SHUTTING";
 
-    fn read(words: &mut Words, form: Expected) -> Result<HoursChange, Trouble> {
-        let door = words.number(form)?;
-        let opening = words.number(form)?;
-        let shutting = words.number(form)?;
-        Ok(HoursChange {
+    fn read(words: &mut Words) -> Option<HoursChange> {
+        let door = words.number()?;
+        let opening = words.number()?;
+        let shutting = words.number()?;
+        Some(HoursChange {
             door,
             opening,
             shutting,

@@ -2,8 +2,8 @@
 use crate::kinds::Written;
 use crate::script::Said;
 use crate::spelling::Spelled;
+use crate::troubles::Expected;
 use crate::troubles::Expected::{Number, Numbers, Words as Line};
-use crate::troubles::Trouble;
 use crate::words::Words;
 use runs::Step;
 
@@ -48,16 +48,25 @@ macro_rules! read_row {
     ) => {
         match $first {
             $($word => {
-                let step = Step::$step { $($part: $words.$reader($form)?),* };
-                $words.end($form)?;
-                Ok(Order::Step { step })
+                let step = Step::$step { $($part: $words.$reader()?),* };
+                Some(Order::Step { step })
             })+
-            $($name => {
-                let order = Order::$order { $($piece: $words.$taker($shape)?),* };
-                $words.end($shape)?;
-                Ok(order)
-            })+
-            _ => Err($words.misfit(Line(listed!($($word),+, $($name),+)))),
+            $($name => Some(Order::$order { $($piece: $words.$taker()?),* }),)+
+            _ => None,
+        }
+    };
+}
+
+// The form of the row of a first word.
+macro_rules! form_of {
+    (($first:ident)
+        steps { $($word:literal $form:expr => $step:ident $parts:tt;)+ }
+        others { $($name:literal $shape:expr => $order:ident $pieces:tt;)+ }
+    ) => {
+        match $first {
+            $($word => $form,)+
+            $($name => $shape,)+
+            _ => Line(listed!($($word),+, $($name),+)),
         }
     };
 }
@@ -88,8 +97,12 @@ macro_rules! listed {
 }
 
 impl<E: Written> Said for Order<E> {
-    fn read(first: &str, words: &mut Words) -> Result<Order<E>, Trouble> {
+    fn read(first: &str, words: &mut Words) -> Option<Order<E>> {
         table!(read_row(first, words))
+    }
+
+    fn form(first: &str) -> Expected {
+        table!(form_of(first))
     }
 }
 

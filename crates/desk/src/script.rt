@@ -2,6 +2,7 @@
 use crate::troubles::{Expected, Trouble};
 use crate::words::Words;
 use std::alloc::Global;
+use std::io;
 use std::io::{BufRead, Read};
 
 // A line has at most so many bytes, its line feed not counted.
@@ -9,14 +10,18 @@ const LONGEST: usize = 65_536;
 
 /// What a line may say.
 pub trait Said: Drop + Sized {
-    /// What it says by its first word and those after it, all of them.
-    fn read(first: &str, words: &mut Words) -> Result<Self, Trouble>;
+    /// What it says by its first word and those after it; none where they do not fit.
+    fn read(first: &str, words: &mut Words) -> Option<Self>;
+
+    /// What is expected of a line with this first word.
+    fn form(first: &str) -> Expected;
 }
 
 #[derive(Drop)]
 pub struct Script<R> {
     source: R,
-    heap: Global,
+    // the last line; the next one is read into the same memory
+    line: Vec<u8>,
     // the number of the last line, from 1; the end of the script counts as a line too
     number: u64,
 }
@@ -25,7 +30,7 @@ impl<R: BufRead + Drop> Script<R> {
     pub fn new(source: R, heap: Global) -> Script<R> {
         Script {
             source,
-            heap,
+            line: Vec::new(heap),
             number: 0,
         }
     }
@@ -38,54 +43,62 @@ impl<R: BufRead + Drop> Script<R> {
         }
     }
 
-    // The next line without its line feed; none at the end. Of a line that is too long, one byte more than
-    // a line may have is read.
-    fn line(&mut self) -> Result<Option<Vec<u8>>, Trouble> {
+    // Goes on to the next line; false at the end. Of a line that is too long, one byte more than a line may have is
+    // read.
+    fn advance(&mut self) -> io::Result<bool> {
         self.number = self.number.saturating_add(1);
-        let mut line = Vec::new(self.heap);
+        self.line.clear();
         let mut source = self.source.by_ref().take(LONGEST as u64 + 1);
-        let read = source.read_until(b'\n', &mut line);
-        if read.map_err(Trouble::Reading)? == 0 {
-            return Ok(None);
-        }
-        if line.last() == Some(&b'\n') {
-            line.pop();
-        }
-        if line.len() > LONGEST {
-            return Err(self.expected(Expected::ShortLine));
-        }
-        Ok(Some(line))
+        let read = source.read_until(b'\n', &mut self.line)?;
+        Ok(read > 0)
     }
 
     /// What the next line says that says something; none at the end of the script.
     pub fn next<T: Said>(&mut self) -> Result<Option<T>, Trouble> {
         // an input may have no end, but a loop has one
         for _ in 0..u64::MAX {
-            let Some(line) = self.line()? else {
-                break;
-            };
-            if let Some(said) = read(text(line.as_slice()), self.number)? {
-                return Ok(Some(said));
+            match self.advance() {
+                Ok(true) => {}
+                Ok(false) => break,
+                Err(error) => return Err(Trouble::Reading(error)),
+            }
+            let line = without_feed(self.line.as_slice());
+            if line.len() > LONGEST {
+                return Err(self.expected(Expected::ShortLine));
+            }
+            match read(text(line)) {
+                Ok(Some(said)) => return Ok(Some(said)),
+                Ok(None) => {}
+                Err(expected) => return Err(self.expected(expected)),
             }
         }
         Ok(None)
     }
 }
 
-// What the line of this number says; none where it has no word. One that is no text has no first word that anybody
-// knows.
-fn read<T: Said>(text: Option<&str>, number: u64) -> Result<Option<T>, Trouble> {
-    let mut words = Words::new(text.unwrap_or_default(), number);
+// What a line says; none where it has no word. One that is no text has no first word that anybody knows.
+fn read<T: Said>(text: Option<&str>) -> Result<Option<T>, Expected> {
+    let mut words = Words::new(text.unwrap_or_default());
     let first = match (text, words.next()) {
         (Some(_), None) => return Ok(None),
         (_, first) => first.unwrap_or_default(),
     };
-    T::read(first, &mut words).map(Some)
+    match T::read(first, &mut words) {
+        Some(said) if words.is_done() => Ok(Some(said)),
+        _ => Err(T::form(first)),
+    }
+}
+
+fn without_feed(line: &[u8]) -> &[u8] {
+    line.strip_suffix(b"\n").unwrap_or(line)
 }
 
 // What stands before the first '#'.
 fn before_comment(line: &[u8]) -> &[u8] {
-    line.split(|b| *b == b'#').next().unwrap_or(line)
+    match line.iter().position(|b| *b == b'#') {
+        Some(at) => &line[..at],
+        None => line,
+    }
 }
 
 // What is written on a line, without a carriage return at its end and its comment; none where that

@@ -147,13 +147,6 @@ impl<'a, E: Written, C: Shown, O: Write> Desk<'a, E, C, O> {
         Ok(())
     }
 
-    fn follow(&mut self, order: Order<E>) -> Result<(), Trouble> {
-        match order {
-            Order::Show => self.show(),
-            Order::Step { step } => self.add(step),
-        }
-    }
-
     // States what happened.
     fn tell(&mut self) -> Result<(), Trouble> {
         self.statement.tell(self.out, &self.site)?;
@@ -170,7 +163,8 @@ pub fn serve<E: Written, C: Shown, R: BufRead + Drop, O: Write>(
     // an input may have no end, but a loop has one
     for _ in 0..u64::MAX {
         match script.next::<Order<E>>() {
-            Ok(Some(order)) => desk.follow(order)?,
+            Ok(Some(Order::Step { step })) => desk.add(step)?,
+            Ok(Some(Order::Show)) => desk.show()?,
             Ok(None) => break,
             Err(trouble) => {
                 desk.clear()?;

@@ -1,6 +1,6 @@
 //! The line that makes the site.
 use crate::script::Said;
-use crate::troubles::{Expected, Trouble};
+use crate::troubles::Expected;
 use crate::words::Words;
 
 /// The form of the line.
@@ -31,40 +31,42 @@ pub struct Setup {
     pub store: Store,
 }
 
-fn read_kind(words: &mut Words) -> Result<KindName, Trouble> {
-    match words.word(FORM)? {
-        "cards" => Ok(KindName::Cards),
-        "hours" => Ok(KindName::Hours),
-        _ => Err(words.misfit(FORM)),
+fn read_kind(words: &mut Words) -> Option<KindName> {
+    match words.next()? {
+        "cards" => Some(KindName::Cards),
+        "hours" => Some(KindName::Hours),
+        _ => None,
     }
 }
 
-fn read_store(words: &mut Words) -> Result<Store, Trouble> {
-    match words.word(FORM)? {
-        "tray" => Ok(Store::Tray {
-            left: words.number(FORM)?,
+fn read_store(words: &mut Words) -> Option<Store> {
+    match words.next()? {
+        "tray" => Some(Store::Tray {
+            left: words.number()?,
         }),
-        "strip" => Ok(Store::Strip {
-            bytes: words.number(FORM)?,
+        "strip" => Some(Store::Strip {
+            bytes: words.number()?,
         }),
-        _ => Err(words.misfit(FORM)),
+        _ => None,
     }
 }
 
 /// The first line that says something.
 impl Said for Setup {
-    fn read(word: &str, words: &mut Words) -> Result<Setup, Trouble> {
-        if word != "site" {
-            return Err(words.misfit(FORM));
+    fn read(first: &str, words: &mut Words) -> Option<Setup> {
+        if first != "site" {
+            return None;
         }
-        let setup = Setup {
+        Some(Setup {
             kind: read_kind(words)?,
-            n: words.number(FORM)?,
-            cap: words.number(FORM)?,
-            room: words.number(FORM)?,
+            n: words.number()?,
+            cap: words.number()?,
+            room: words.number()?,
             store: read_store(words)?,
-        };
-        words.end(FORM)?;
-        Ok(setup)
+        })
+    }
+
+    fn form(_first: &str) -> Expected {
+        FORM
     }
 }

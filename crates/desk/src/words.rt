@@ -2,18 +2,15 @@
 ghost use Rattle.desk.specs.Digits.{Reads};
 
 use crate::kinds::Written;
-use crate::troubles::{Expected, Trouble};
 use entries::Question;
 use numbers::{ControllerNumber, Place, Stamp, View};
 use std::str::Split;
 
-/// The words of a line that are not read yet. Spaces and tabs part them. Each reader takes the words that it needs,
-/// and is told the form of the line, which is what was expected where they do not fit.
+/// The words of a line that are not read yet. Spaces and tabs part them. Each reader takes the words that it needs;
+/// none where they do not fit.
 #[derive(Drop)]
 pub struct Words<'a> {
     pieces: Split<'a, [char; 2]>,
-    // the number of the line
-    line: u64,
 }
 
 // A number is plain digits, up to 65,535.
@@ -27,10 +24,9 @@ fn number_of(word: &str) -> Option<u16>
 }
 
 impl<'a> Words<'a> {
-    pub fn new(text: &'a str, line: u64) -> Words<'a> {
+    pub fn new(text: &'a str) -> Words<'a> {
         Words {
             pieces: text.split([' ', '\t']),
-            line,
         }
     }
 
@@ -39,55 +35,40 @@ impl<'a> Words<'a> {
         self.pieces.find(|piece| !piece.is_empty())
     }
 
-    /// The line is not of this form.
-    pub fn misfit(&self, form: Expected) -> Trouble {
-        Trouble::Line {
-            number: self.line,
-            expected: form,
-        }
+    /// Whether all words are read.
+    pub fn is_done(&mut self) -> bool {
+        self.next().is_none()
     }
 
-    /// All words have to be read.
-    pub fn end(&mut self, form: Expected) -> Result<(), Trouble> {
-        match self.next() {
-            None => Ok(()),
-            Some(_) => Err(self.misfit(form)),
-        }
-    }
-
-    pub fn word(&mut self, form: Expected) -> Result<&'a str, Trouble> {
-        self.next().ok_or_else(|| self.misfit(form))
-    }
-
-    pub fn number(&mut self, form: Expected) -> Result<u16, Trouble> {
-        number_of(self.word(form)?).ok_or_else(|| self.misfit(form))
+    pub fn number(&mut self) -> Option<u16> {
+        number_of(self.next()?)
     }
 
     /// Any number: one out of range is for the step to refuse. So too at a place.
-    pub fn controller(&mut self, form: Expected) -> Result<ControllerNumber, Trouble> {
-        let number = self.number(form)?;
-        Ok(ControllerNumber { number })
+    pub fn controller(&mut self) -> Option<ControllerNumber> {
+        let number = self.number()?;
+        Some(ControllerNumber { number })
     }
 
-    pub fn place(&mut self, form: Expected) -> Result<Place, Trouble> {
-        let number = self.number(form)?;
-        Ok(Place { number })
+    pub fn place(&mut self) -> Option<Place> {
+        let number = self.number()?;
+        Some(Place { number })
     }
 
     /// A view count, a controller and a place, whether in range or not.
-    pub fn stamp(&mut self, form: Expected) -> Result<Stamp, Trouble> {
-        let view = View::of(self.number(form)?, self.number(form)?);
-        let place = self.place(form)?;
-        Ok(Stamp { view, place })
+    pub fn stamp(&mut self) -> Option<Stamp> {
+        let view = View::of(self.number()?, self.number()?);
+        let place = self.place()?;
+        Some(Stamp { view, place })
     }
 
-    pub fn question(&mut self, form: Expected) -> Result<Question, Trouble> {
-        let first = self.number(form)?;
-        let second = self.number(form)?;
-        Ok(Question { first, second })
+    pub fn question(&mut self) -> Option<Question> {
+        let first = self.number()?;
+        let second = self.number()?;
+        Some(Question { first, second })
     }
 
-    pub fn change<E: Written>(&mut self, form: Expected) -> Result<E, Trouble> {
-        E::read(self, form)
+    pub fn change<E: Written>(&mut self) -> Option<E> {
+        E::read(self)
     }
 }

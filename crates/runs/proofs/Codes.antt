@@ -45,3 +45,6 @@ coded_view k = view_of (k / 8) (k % 8)
 
 pub code_of_view : (k : ℕ) → code (coded_view k) ≡ k
 code_of_view k = omega arith
+
+pub view_of_code : (v : View) → Small v → coded_view (code v) ≡ v
+view_of_code v small = code_same (coded_view (code v)) v (omega arith) small (code_of_view (code v))

@@ -11,7 +11,7 @@ invariant_of-self c =
     let s = c.args.self.now in
     record {
       seven = s.seven;
-      counted = rest_counted s.sound s.bytes.now c.args.cell c.in-Some.at s.tells c.in-Some.ensures.place c.in-Some.ensures.part c.in-Some.ensures.room _ _ (row_of c.args.new) c.args.new.kept (omega arith) (c.write_views.ensures ∙ ap (λ w. drop 1 (slot_bytes w)) c.row.ensures.value) s.counts s.counted;
+      counted = λ _. rest_counted s.sound s.bytes.now c.args.cell c.in-Some.at s.tells c.in-Some.ensures.place c.in-Some.ensures.part c.in-Some.ensures.room _ _ (row_of c.args.new) c.args.new.kept (omega arith) (c.write_views.ensures ∙ ap (λ w. drop 1 (slot_bytes w)) c.row.ensures.value) s.counts (s.counted c.in-Some.ensures.part.0);
       tells = rest_told s.sound s.bytes.now c.args.cell c.in-Some.at s.tells c.in-Some.ensures.place c.in-Some.ensures.part c.in-Some.ensures.room _ _ (row_of c.args.new) c.args.new.kept (omega arith) (c.write_views.ensures ∙ ap (λ w. drop 1 (slot_bytes w)) c.row.ensures.value);
     }
 
@@ -20,14 +20,14 @@ overflow_add-self c =
     let s = c.args.self.now in
     let mine = c.in-Some.ensures.part in
     let form = s.tells.0 mine.0 in
-    omega (arith, form.most, mine.2, s.counted c.args.cell mine.1, part_length s.bytes.now c.args.cell mine.1)
+    omega (arith, form.most, mine.2, s.counted mine.0 c.args.cell mine.1, part_length s.bytes.now c.args.cell mine.1)
 
 pub invariant_of-self-2 : goal.invariant_of-self-2
 invariant_of-self-2 c =
     let s = c.args.self.now in
     record {
       seven = length-set s.counts c.args.cell (get_or s.counts c.args.cell 0 + 1) ∙ s.seven;
-      counted = put_counted s.sound s.bytes.now c.args.cell c.in-Some.at s.tells c.in-Some.ensures.place c.in-Some.ensures.part c.in-Some.ensures.room _ _ (row_of c.args.new) c.args.new.kept (omega arith) (c.write_views.ensures ∙ ap (λ w. drop 1 (slot_bytes w)) c.row.ensures.value) s.counts s.counted s.seven;
+      counted = λ _. put_counted s.sound s.bytes.now c.args.cell c.in-Some.at s.tells c.in-Some.ensures.place c.in-Some.ensures.part c.in-Some.ensures.room _ _ (row_of c.args.new) c.args.new.kept (omega arith) (c.write_views.ensures ∙ ap (λ w. drop 1 (slot_bytes w)) c.row.ensures.value) s.counts (s.counted c.in-Some.ensures.part.0) s.seven;
       tells = put_told s.sound s.bytes.now c.args.cell c.in-Some.at s.tells c.in-Some.ensures.place c.in-Some.ensures.part c.in-Some.ensures.room _ _ (row_of c.args.new) c.args.new.kept (omega arith) (c.write_views.ensures ∙ ap (λ w. drop 1 (slot_bytes w)) c.row.ensures.value);
     }
 
