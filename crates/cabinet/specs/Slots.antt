@@ -71,6 +71,14 @@ part_size bs = length bs / 7
 abbrev pub part : List ℕ → ℕ → List ℕ
 part bs c = take (part_size bs) (drop (c * part_size bs) bs)
 
+-- so many bytes a strip can have: a multiple of 56, from 56 to 57,344
+abbrev pub StripSize : ℕ → Type 0
+StripSize n = (n % 56 ≡ 0) × (56 ≤ n) × (n ≤ 57344)
+
+-- the numbers of bytes of which a strip keeps right counts: a strip's, or fewer than seven slots take
+abbrev pub Countable : ℕ → Type 0
+Countable n = 56 ≤ n → StripSize n
+
 -- a multiple of 56 bytes, from 56 to 57,344, and all seven parts in form
 pub record StripForm (bs : List ℕ) : Type 0 where
   pub whole : length bs % 56 ≡ 0

@@ -1,9 +1,9 @@
 //! A strip: records in bytes that the caller lends, seven parts of slots that are filled in order.
-ghost use Rattle.std.specs.Prelude.{◌≡◌, ℕ, ◌+◌, ◌<◌, ◌≤◌, true, if◌then◌else◌, length, Some, None, Ok, Err, IfSome, Decides, MatchOption, MatchResult};
+ghost use Rattle.std.specs.Prelude.{◌≡◌, ℕ, ◌+◌, ◌<◌, ◌≤◌, true, if◌then◌else◌, length, replicate, Some, None, Ok, Err, IfSome, Decides, MatchOption, MatchResult};
 ghost use Rattle.numbers.specs.Records.{row_of};
 ghost use Rattle.numbers.specs.Refusals.{refusal};
 ghost use Rattle.cabinet.specs.Cells.{fresh, cell_at, is_worn, put_cells};
-ghost use Rattle.cabinet.specs.Slots.{slots_in, filled, part, part_cell, PartForm, StripForm, Counted, next_slot, put_bytes};
+ghost use Rattle.cabinet.specs.Slots.{slots_in, filled, part, part_cell, PartForm, StripSize, Countable, StripForm, Counted, next_slot, put_bytes};
 
 use crate::cabinets::Cabinet;
 use crate::faults::Worn;
@@ -19,10 +19,12 @@ pub struct Strip<'a> {
     bytes: &'a mut [u8],
     // whether the bytes are in form; a flag beside them, since they stay lent where they are not
     sound: bool,
-    // how many slots of each part are filled, so that no call has to search; bytes in no form are not counted
+    // how many slots of each part are filled, so that no call has to search; zeros of 56 bytes or more whose number is no
+    // strip's, which are not counted
     counts: [usize; 7],
     ghost seven: { length counts ≡ 7 },
-    ghost counted: { sound ≡ true → Counted counts bytes.now },
+    ghost counted: { Countable (length bytes.now) → Counted counts bytes.now },
+    ghost uncounted: { (Countable (length bytes.now) → ⊥) → counts ≡ replicate 7 0 },
     ghost tells: { Decides sound (StripForm bytes.now) },
 }
 
@@ -47,11 +49,12 @@ impl<'a> Strip<'a> {
         ensures tells { Decides result.sound (StripForm bytes.old) }
     {
         let read = &*bytes;
-        let counts = strip_counts(read);
+        let counts = bounded_counts(read);
+        let sound = bytes_are_in_form(read, &counts);
         Strip {
             bytes,
-            sound: counts.is_some(),
-            counts: counts.unwrap_or([0; 7]),
+            sound,
+            counts,
         }
     }
 
@@ -127,6 +130,13 @@ fn parts_are_in_form(bytes: &[u8], counts: &[usize; 7]) -> bool
     (0..7).all(|cell| is_in_form(part_of(bytes, cell), counts[cell]))
 }
 
+// Whether a strip can have so many bytes: a multiple of 56, from 56 to 57,344.
+fn is_strip_size(n: usize) -> bool
+    ensures { Decides result (StripSize n) }
+{
+    n % 56 == 0 && (56..=57_344).contains(&n)
+}
+
 // How many slots of each part are filled; none where a part is not in form.
 fn part_counts(bytes: &[u8]) -> Option<[usize; 7]>
     ensures seven { IfSome result (λ counts. length counts ≡ 7) }
@@ -140,19 +150,42 @@ fn part_counts(bytes: &[u8]) -> Option<[usize; 7]>
     Some(counts)
 }
 
-// The same of bytes that are a multiple of 56, from 56 to 57,344; none where they are not. Their number is asked first,
-// so that bytes that are no strip are not gone through.
+// The same of bytes that are as many as a strip's; none where they are not. Their number is asked first, so that bytes
+// that are no strip are not gone through.
 fn strip_counts(bytes: &[u8]) -> Option<[usize; 7]>
     ensures seven { IfSome result (λ counts. length counts ≡ 7) }
     ensures counted { IfSome result (λ counts. Counted counts bytes.now) }
     ensures form { MatchOption result (StripForm bytes.now → ⊥) (λ _. StripForm bytes.now) }
 {
-    let n = bytes.len();
-    if n % 56 == 0 && (56..=57_344).contains(&n) {
+    if is_strip_size(bytes.len()) {
         part_counts(bytes)
     } else {
         None
     }
+}
+
+// How many slots of each part are filled, in form or not. Bytes whose number is no strip's are not gone through, since
+// they may be as long as memory: they get zeros, which are right of fewer than 56, where no part has a slot.
+#[tactic(auto, using(crate::proofs::Strips::no_slot))]
+fn bounded_counts(bytes: &[u8]) -> [usize; 7]
+    ensures seven { length result ≡ 7 }
+    ensures counted { Countable (length bytes.now) → Counted result bytes.now }
+    ensures uncounted { (Countable (length bytes.now) → ⊥) → result ≡ replicate 7 0 }
+{
+    if is_strip_size(bytes.len()) {
+        filled_counts(bytes)
+    } else {
+        [0; 7]
+    }
+}
+
+// Whether the bytes are as many as a strip's, and all seven parts are in form; where they are as many, the counts of their
+// filled slots are known.
+fn bytes_are_in_form(bytes: &[u8], counts: &[usize; 7]) -> bool
+    requires { StripSize (length bytes.now) → Counted counts.now bytes.now }
+    ensures { Decides result (StripForm bytes.now) }
+{
+    is_strip_size(bytes.len()) && parts_are_in_form(bytes, counts)
 }
 
 impl<'a> Cabinet for Strip<'a> {

@@ -74,6 +74,18 @@ fn one_byte_changed(rt: HostRuntime) {
     }
 }
 
+// Bytes whose number is no strip's, each 1, so that every slot among them would be filled: they fail the check, and their
+// strip takes and writes nothing.
+#[test]
+fn bytes_of_no_strip(rt: HostRuntime) {
+    let mut bytes = [1; 57_400];
+    for size in [0, 8, 55, 57, 57_343, 57_400] {
+        assert!(rt; size <= 57_400);
+        assert_eq!(rt; of_strip(&mut bytes[0..size]), [false; 4]);
+        assert!(rt; bytes.iter().all(|byte| *byte == 1));
+    }
+}
+
 // The two slots of cell 0 before and after a put of twice (0, 0).
 #[test]
 fn the_first_empty_slot_is_filled(rt: HostRuntime) {
